@@ -1,0 +1,17 @@
+pub mod Facts
+pub mod Numbered
+pub mod Served
+pub mod Booleans
+pub mod Pieces
+pub mod Fitting
+pub mod Leftmost
+pub mod Stack
+pub mod Steps
+pub mod Classes
+pub mod Ends
+pub mod Due
+pub mod Fronts
+pub mod StackSteps
+pub mod Words
+pub mod Lexed
+pub mod Answered

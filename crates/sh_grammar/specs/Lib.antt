@@ -1,0 +1,10 @@
+pub mod Lexemes
+pub mod Forms
+pub mod Grammar
+pub mod Language
+pub mod Predictive
+pub mod Views
+pub mod Machine
+pub mod LeftOut
+pub mod Answer
+pub mod Laid

@@ -1,0 +1,108 @@
+ghost use Rattle.std.specs.Prelude.{◌≡◌};
+ghost use Rattle.sh_grammar.specs.Forms.{number};
+
+/// The forms of the grammar. docs/LANGUAGE.md says of each what it may be.
+#[derive(Clone, Copy)]
+pub enum Form {
+    // The file and its items.
+    File,
+    Aliases,
+    Contents,
+    ModuleName,
+    Items,
+    Alias,
+    Hash,
+    Map,
+    Names,
+    MoreNames,
+    Name,
+    Item,
+    Extents,
+    Arguments,
+    MoreArguments,
+    Argument,
+    Device,
+    Cuts,
+    MoreCuts,
+    Cut,
+    MaybeHalo,
+    Halo,
+    MaybeOffsets,
+    Offsets,
+    // Functions.
+    Func,
+    Visibility,
+    Parameters,
+    MoreParameters,
+    Parameter,
+    Results,
+    ResultTypes,
+    Operations,
+    Return,
+    Returned,
+    // Types, lists and constants.
+    ValueType,
+    Dims,
+    Dim,
+    Width,
+    Types,
+    MoreTypes,
+    Values,
+    MoreValues,
+    Dense,
+    Cells,
+    Element,
+    Elements,
+    MoreElements,
+    Num,
+    Nums,
+    Numbers,
+    MoreNumbers,
+    Lists,
+    ListItems,
+    MoreListItems,
+    // Operations.
+    Operation,
+    RightSide,
+    Arith,
+    Constant,
+    Bin,
+    Predicate,
+    SelectTypes,
+    Cast,
+    Structured,
+    Ins,
+    MaybeIns,
+    Outs,
+    Reduce,
+    Combiner,
+    MaybeNoOverflow,
+    NoOverflow,
+    Body,
+    BodyOperation,
+    Yield,
+    BlockArguments,
+    MoreBlockArguments,
+    BlockArgument,
+    Maps,
+    MoreMaps,
+    MapOrAlias,
+    Iterators,
+    MoreIterators,
+    On,
+    MaybeAxes,
+    MaybeReduction,
+    ReductionKind,
+    KindName,
+    MaybeForUsers,
+    MaybeRotate,
+}
+
+impl Form {
+    /// The place of the form among all.
+    pub fn number(self) -> usize
+        ensures { result ≡ number self }
+    {
+        self as usize
+    }
+}

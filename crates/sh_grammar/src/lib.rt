@@ -1,0 +1,21 @@
+//! The grammar as data, and the machine that reads token lists by it.
+#![tactic(auto)]
+
+mod forms;
+mod keywords;
+mod left_out;
+mod lexemes;
+mod machine;
+mod reader;
+mod reading;
+mod symbols;
+mod table;
+mod tables;
+
+pub use forms::Form;
+pub use reader::read;
+pub use reading::{Reading, Stop};
+pub use symbols::{Beginning, Event, Symbol};
+
+#[cfg(test)]
+mod tests;
