@@ -1,0 +1,4 @@
+pub mod TensorLaws
+pub mod RunLaws
+pub mod SliceLaws
+pub mod JoinLaws
