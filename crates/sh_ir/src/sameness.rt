@@ -1,0 +1,9 @@
+mod arith_ops;
+mod bodies;
+mod functions;
+mod linalg_ops;
+mod modules;
+mod operations;
+mod shard_ops;
+mod tensor_ops;
+mod types;
