@@ -1,0 +1,4 @@
+pub mod PartLaws
+pub mod CutLaws
+pub mod WindowLaws
+pub mod OwnerLaws

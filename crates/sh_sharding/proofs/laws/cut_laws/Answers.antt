@@ -1,0 +1,12 @@
+use Rattle.sh_sharding.proofs.CutLaws.{cuts_elementwise}
+use Rattle.sh_sharding.proofs.OwnerLaws.{cuts_determine, holds_owned}
+use Rattle.sh_sharding.proofs.laws.cut_laws.Goals as goal
+
+pub returns-clause-holds : goal.returns-clause-holds
+returns-clause-holds c = holds_owned c.args.s.now
+
+pub returns-clause-determine : goal.returns-clause-determine
+returns-clause-determine c = cuts_determine c.args.s.now c.whole-whole.ensures.admitted
+
+pub returns-clause-elementwise : goal.returns-clause-elementwise
+returns-clause-elementwise c = λ none. cuts_elementwise c.args.s.now c.whole-whole.ensures.admitted none

@@ -1,0 +1,126 @@
+-- The rules A1 to A8 on a sharding as it is written, and the sharding that it stands for.
+use Rattle.std.specs.Prelude.{◌≡◌, ◌≢◌, ℕ, ◌+◌, ◌*◌, ◌%◌, ◌<◌, ◌≤◌, ◌==◌, List, [], ◌∷◌, length, map, take, drop, get_or, count_by, Bool, true, false, if◌then◌else◌, ℤ, pos, negsuc, ◌≤ℤ◌, ◌<ℤ◌, nat_eq, All}
+use Rattle.std.specs.List.{AllByRecursion, flat_map}
+use Rattle.std.specs.Cmp.Lexicographic.{pointwise}
+use Rattle.sh_base.specs.declared.rules.Rule.{Rule}
+use Rattle.sh_base.specs.declared.rules.Rule.TheVariants.{A1, A2, A3, A4, A5, A6, A7, A8}
+use Rattle.sh_base.specs.Shape.{cell_count}
+use Rattle.sh_grid.specs.Grid.{GridValue}
+use Rattle.sh_ir.specs.declared.types.RawSharding.{RawSharding}
+use Rattle.sh_sharding.specs.declared.shardings.Mark.{Mark}
+use Rattle.sh_sharding.specs.declared.shardings.Mark.TheVariants.{Even, Offsets}
+use Rattle.sh_sharding.specs.declared.shardings.Dimension.{Dimension}
+use Rattle.sh_sharding.specs.Sharding.{ShardingValue, parts_of, part_size, offsets_of, unsplit, local_shape, counted_cells}
+
+-- a written number that isn't negative
+abbrev pub natural : ℤ → ℕ
+natural (pos n) = n
+natural (negsuc n) = 0
+
+abbrev pub IsNatural : ℤ → Type 0
+IsNatural z = pos 0 ≤ℤ z
+
+-- a written number that is below a bound, and isn't negative
+abbrev pub IsBelow : ℕ → ℤ → Type 0
+IsBelow n z = (pos 0 ≤ℤ z) × (z <ℤ pos n)
+
+-- ---- what is written
+
+-- all listed axes
+abbrev pub listed_axes : List (List ℤ) → List ℕ
+listed_axes lists = flat_map (λ axes. map natural axes) lists
+
+-- the dimensions with their lists of axes, where a list that is missing is empty
+abbrev pub listed : List (List ℤ) → List ℕ → List Dimension
+listed lists [] = []
+listed lists (n ∷ s) = record (unsplit n) { axes = map natural (get_or lists 0 []) } ∷ listed (drop 1 lists) s
+
+abbrev pub is_split_by : List ℕ → Bool
+is_split_by [] = false
+is_split_by (a ∷ axes) = true
+
+abbrev pub is_split : Dimension → Bool
+is_split d = is_split_by d.axes
+
+-- how many of the written offsets are a dimension's
+unfoldable pub offset_count : List ℕ → Dimension → ℕ
+offset_count g d = if is_split d then parts_of g d + 1 else 0
+
+-- the mark that the normal form has for these offsets
+unfoldable pub mark_of : ℕ → ℕ → List ℕ → Mark
+mark_of extent parts [] = Even
+mark_of extent parts (o ∷ offsets) = if pointwise nat_eq (o ∷ offsets) (offsets_of extent parts Even) then Even else Offsets (o ∷ offsets)
+
+-- the dimensions with their offsets
+abbrev pub marked : List ℕ → List Dimension → List ℤ → List Dimension
+marked g [] offsets = []
+marked g (d ∷ ds) offsets =
+    record d { mark = mark_of d.extent (parts_of g d) (map natural (take (offset_count g d) offsets)) }
+    ∷ marked g ds (drop (offset_count g d) offsets)
+
+-- the dimensions with their halos
+abbrev pub with_halos : List Dimension → List ℤ → List Dimension
+with_halos [] halos = []
+with_halos (d ∷ ds) halos =
+    if is_split d
+    then record d { low = natural (get_or halos 0 (pos 0)); high = natural (get_or halos 1 (pos 0)) } ∷ with_halos ds (drop 2 halos)
+    else d ∷ with_halos ds halos
+
+-- the sharding that is written, in normal form
+abbrev pub sharding_of : GridValue → RawSharding → List ℕ → ShardingValue
+sharding_of g raw s =
+    record { grid = g; dimensions = with_halos (marked g.extents (listed raw.split s) raw.offsets) raw.halos }
+
+-- ---- the rules
+
+-- one more offset than parts: 0 first, none less than the one before, the extent last
+pub record AreOffsets (extent parts : ℕ) (offsets : List ℤ) : Type 0 where
+  pub counted : length offsets ≡ parts + 1
+  pub begins : get_or offsets 0 (pos 0) ≡ pos 0
+  pub rises : (i : ℕ) → i < parts → get_or offsets i (pos 0) ≤ℤ get_or offsets (i + 1) (pos 0)
+  pub ends : get_or offsets parts (pos 0) ≡ pos extent
+
+-- offsets of the split dimensions, in order, and none besides
+abbrev pub AreAllOffsets : List ℕ → List Dimension → List ℤ → Type 0
+AreAllOffsets g [] offsets = offsets ≡ []
+AreAllOffsets g (d ∷ ds) offsets =
+    (is_split d ≡ true → AreOffsets d.extent (parts_of g d) (take (offset_count g d) offsets))
+    × AreAllOffsets g ds (drop (offset_count g d) offsets)
+
+-- no halo is longer than a part of its dimension
+abbrev pub HalosFit : List ℕ → Dimension → Type 0
+HalosFit g d = (i : ℕ) → i < parts_of g d → (d.low ≤ part_size g d i) × (d.high ≤ part_size g d i)
+
+-- what each rule asks of a sharding that is written for a tensor of a shape, on a grid
+abbrev pub Keeps : Rule → GridValue → RawSharding → List ℕ → Type 0
+Keeps A1 g raw s = All (All (IsBelow (length g.extents))) raw.split
+Keeps A2 g raw s = (a : ℕ) → count_by (λ b. b == a) (listed_axes raw.split) ≤ 1
+Keeps A3 g raw s = length raw.split ≤ length s
+Keeps A4 g raw s = raw.offsets ≡ [] → All (λ d. d.extent % parts_of g.extents d ≡ 0) (listed raw.split s)
+Keeps A5 g raw s = raw.offsets ≢ [] → AreAllOffsets g.extents (listed raw.split s) raw.offsets
+Keeps A6 g raw s = raw.halos ≢ [] → raw.offsets ≡ []
+Keeps A7 g raw s =
+    raw.halos ≢ [] → (length raw.halos ≡ 2 * count_by is_split (listed raw.split s)) × All IsNatural raw.halos
+Keeps A8 g raw s =
+    AllByRecursion (HalosFit g.extents) (sharding_of g raw s).dimensions
+    × ((device : ℕ) → device < cell_count g.extents → counted_cells (local_shape (sharding_of g raw s) device) ≤ 1048576)
+Keeps _ g raw s = Unit {0}
+
+abbrev pub rules_before : Rule → List Rule
+rules_before A2 = A1 ∷ []
+rules_before A3 = A1 ∷ A2 ∷ []
+rules_before A4 = A1 ∷ A2 ∷ A3 ∷ []
+rules_before A5 = A1 ∷ A2 ∷ A3 ∷ A4 ∷ []
+rules_before A6 = A1 ∷ A2 ∷ A3 ∷ A4 ∷ A5 ∷ []
+rules_before A7 = A1 ∷ A2 ∷ A3 ∷ A4 ∷ A5 ∷ A6 ∷ []
+rules_before A8 = A1 ∷ A2 ∷ A3 ∷ A4 ∷ A5 ∷ A6 ∷ A7 ∷ []
+rules_before _ = []
+
+-- all rules are kept
+pub record IsAdmitted (g : GridValue) (raw : RawSharding) (s : List ℕ) : Type 0 where
+  pub keeps : (rule : Rule) → Keeps rule g raw s
+
+-- the rule is broken, and those before it are kept
+pub record IsLeastBroken (rule : Rule) (g : GridValue) (raw : RawSharding) (s : List ℕ) : Type 0 where
+  pub broken : ¬ Keeps rule g raw s
+  pub earlier : AllByRecursion (λ kept. Keeps kept g raw s) (rules_before rule)

@@ -1,0 +1,4 @@
+pub mod Sharding
+pub mod Cut
+pub mod Admission
+pub mod Windows
