@@ -1,0 +1,4 @@
+pub mod Program
+pub mod Lockstep
+pub mod World
+pub mod Law
