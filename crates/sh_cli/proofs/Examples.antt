@@ -1,0 +1,148 @@
+-- The headline's definitions on the example, by computation, and two wrong modules that they refuse.
+use Rattle.std.proofs.Common.{get_or, ◌≡◌, ℕ, zero, suc, true, false, List, [], ◌∷◌, Some, refl, ap, sym, ◌∙◌, subst, map, length, arith}
+use Rattle.std.proofs.lemmas.Option.{same_Some}
+use Rattle.std.specs.List.{AllByRecursion}
+use Rattle.std.specs.Prelude.{IsSomeAnd}
+use Rattle.sh_base.specs.Cells.{IsCellOf}
+use Rattle.sh_base.specs.declared.numbers.Cell.{Cell}
+use Rattle.sh_base.specs.declared.numbers.Cell.TheVariants.{Undef, Val}
+use Rattle.sh_base.specs.declared.numbers.Width.{Width}
+use Rattle.sh_base.specs.declared.numbers.Width.TheVariants.{I32}
+use Rattle.sh_base.specs.Shape.{cell_count, flat_of}
+use Rattle.sh_ir.specs.declared.functions.Carry.{Carry}
+use Rattle.sh_ir.specs.declared.modules.GridItem.{GridItem}
+use Rattle.sh_ir.specs.declared.operations.OpKind.TheVariants.{Binary}
+use Rattle.sh_ir.specs.declared.types.Dim.TheVariants.{Known}
+use Rattle.sh_base.specs.declared.operations.BinOp.TheVariants.{Addi}
+use Rattle.sh_ir.specs.declared.functions.Func.{Func}
+use Rattle.sh_tensor.specs.Tensor.{TensorValue, at, cells_of}
+use Rattle.sh_grid.specs.Grid.{place_in, group_size_of, on_axes}
+use Rattle.sh_int.specs.Elements.{element_of}
+use Rattle.sh_sharding.specs.Admission.{mark_of, offset_count}
+use Rattle.sh_sharding.specs.Cut.{cut_of}
+use Rattle.sh_sharding.specs.Sharding.{offset_of, parts_of, part_of, offset_at, part_size, start_in, size_in, local_extent, offsets_of}
+use Rattle.sh_sem.specs.Elementwise.{elementwise, is_stuck_somewhere}
+use Rattle.sh_sem.specs.Meaning.{means, value_of}
+use Rattle.sh_sem.specs.Device.{device_program, local_value, is_collective_at, places_returned}
+use Rattle.sh_turns.specs.Program.{Program, returned, turns}
+use Rattle.sh_turns.specs.World.{start, run, finished}
+use Rattle.sh_cli.specs.Headline.{AreOfTypes, IsOfType, IsPartition, IsPartitioned, RunsRight, argument_types, cuts_of}
+use Rattle.sh_cli.specs.Modules.{carry_of, defining, device_func, line_of_devices, module_of, place_at, returning, source_func, vector}
+use Rattle.sh_cli.proofs.LineSharding.{line}
+use Rattle.sh_cli.proofs.SumHeadline.{only_one, the_one, sum_is_partitioned}
+
+-- a vector of these numbers
+abbrev of_numbers : List ℕ → TensorValue
+of_numbers numbers = record { shape = length numbers ∷ []; width = I32; cells = map (λ x. Val x) numbers }
+
+abbrev left : TensorValue
+left = of_numbers (2147483647 ∷ 1 ∷ 2 ∷ 3 ∷ [])
+
+abbrev right : TensorValue
+right = of_numbers (1 ∷ 1 ∷ 1 ∷ 1 ∷ [])
+
+-- the device function on two devices
+abbrev on_two_devices : Func → List TensorValue → Program TensorValue
+on_two_devices f arguments = device_program f (2 ∷ []) (cuts_of (line 2) (carry_of 4).args arguments)
+
+-- the sum wraps round: 2147483648 is the number of -2147483648
+sum_is : means (source_func 4) (left ∷ right ∷ []) ≡ Some (of_numbers (2147483648 ∷ 2 ∷ 3 ∷ 4 ∷ []) ∷ [])
+unfolding means value_of elementwise is_stuck_somewhere element_of at cells_of
+sum_is = refl
+
+-- each device has its half of the sum, in two turns, in either order
+abbrev ends_with_halves : List ℕ → Type 0
+ends_with_halves schedule =
+    IsSomeAnd (run (on_two_devices (device_func 4 2) (left ∷ right ∷ [])) (start (on_two_devices (device_func 4 2) (left ∷ right ∷ []))) schedule)
+    (λ w. (finished (on_two_devices (device_func 4 2) (left ∷ right ∷ [])) w ≡ true)
+    × (map (λ d. returned (on_two_devices (device_func 4 2) (left ∷ right ∷ [])) d.values) w ≡ (of_numbers (2147483648 ∷ 2 ∷ []) ∷ []) ∷ (of_numbers (3 ∷ 4 ∷ []) ∷ []) ∷ []))
+
+first_device_first : ends_with_halves (0 ∷ 1 ∷ [])
+unfolding local_value is_collective_at places_returned value_of elementwise is_stuck_somewhere element_of at cells_of cut_of start_in size_in local_extent part_size part_of offset_at offset_of parts_of place_in group_size_of on_axes mark_of offset_count offsets_of
+first_device_first = (refl, refl)
+
+last_device_first : ends_with_halves (1 ∷ 0 ∷ [])
+unfolding local_value is_collective_at places_returned value_of elementwise is_stuck_somewhere element_of at cells_of cut_of start_in size_in local_extent part_size part_of offset_at offset_of parts_of place_in group_size_of on_axes mark_of offset_count offsets_of
+last_device_first = (refl, refl)
+
+two_turns : turns (on_two_devices (device_func 4 2) (left ∷ right ∷ [])) ≡ 2
+unfolding is_collective_at
+two_turns = refl
+
+-- ---- two wrong modules
+
+-- a module whose function adds its first argument to itself
+abbrev twice_func : Func
+twice_func = record (device_func 4 2) { ops = defining 2 (Binary Addi) (0 ∷ 0 ∷ []) (vector 2) (place_at 5 5) ∷ returning 2 2 (place_at 6 5) ∷ [] }
+
+-- a module whose devices have whole vectors as their parts
+abbrev undivided_func : Func
+undivided_func = device_func 4 4
+
+cell_fits : (w : Width) (cells : List Cell) → AllByRecursion (IsCellOf w) cells → (k : ℕ) → IsCellOf w (get_or cells k Undef)
+cell_fits w [] fit k = tt
+cell_fits w (c ∷ cells) fit zero = fit.0
+cell_fits w (c ∷ cells) fit (suc k) = cell_fits w cells fit.1 k
+
+is_vector : (t : TensorValue) → length t.cells ≡ cell_count t.shape → t.shape ≡ 4 ∷ [] → t.width ≡ I32 → AllByRecursion (IsCellOf t.width) t.cells → IsOfType (vector 4) t
+unfolding at
+is_vector t counted shape width fit = record {
+  extents = ap (λ (dims : List ℕ). map (λ n. Known n) dims) shape;
+  width = width;
+  whole = record { counted = counted; fitting = λ i h. cell_fits t.width t.cells fit (flat_of t.shape i) };
+}
+
+left_fits : AllByRecursion (IsCellOf I32) left.cells
+left_fits = (omega arith, (omega arith, (omega arith, (omega arith, tt))))
+
+right_fits : AllByRecursion (IsCellOf I32) right.cells
+right_fits = (omega arith, (omega arith, (omega arith, (omega arith, tt))))
+
+are_vectors : AreOfTypes (argument_types (source_func 4)) (left ∷ right ∷ [])
+are_vectors = (is_vector left refl refl refl left_fits, (is_vector right refl refl refl right_fits, tt))
+
+-- what the statement of the headline says of a module with one function, where that carries the right cuts
+is_partition : (g : Func) → g.carry ≡ Some (carry_of 4) → IsPartitioned (module_of 2 (source_func 4)) (module_of 2 g) → IsPartition (source_func 4) g (carry_of 4) (line_of_devices 2)
+is_partition g carries holds =
+    let got = holds (source_func 4) (the_one (source_func 4)) refl in
+    let same_func = only_one g got.0 got.3 in
+    let same_grid = only_one (line_of_devices 2) got.2 got.4 in
+    let same_carry : got.1 ≡ carry_of 4 = same_Some _ _ (sym got.5.carries ∙ ap (λ (f : Func). f.carry) same_func ∙ carries) in
+    subst (λ (c : Carry). IsPartition (source_func 4) g c (line_of_devices 2)) same_carry
+    (subst (λ (i : GridItem). IsPartition (source_func 4) g got.1 i) same_grid
+    (subst (λ (f : Func). IsPartition (source_func 4) f got.1 got.2) same_func got.5))
+
+-- every run of such a function, on the cuts of the example's arguments, would be right
+would_run : (g : Func) → g.carry ≡ Some (carry_of 4) → IsPartitioned (module_of 2 (source_func 4)) (module_of 2 g)
+    → RunsRight (on_two_devices g (left ∷ right ∷ [])) (cuts_of (line 2) (carry_of 4).results (of_numbers (2147483648 ∷ 2 ∷ 3 ∷ 4 ∷ []) ∷ []))
+would_run g carries holds = (is_partition g carries holds).runs (left ∷ right ∷ []) (of_numbers (2147483648 ∷ 2 ∷ 3 ∷ 4 ∷ []) ∷ []) are_vectors sum_is
+
+abbrev number_in : Cell → ℕ
+number_in Undef = 0
+number_in (Val x) = x
+
+abbrev first_number : List TensorValue → ℕ
+first_number [] = 0
+first_number (t ∷ ts) = number_in (get_or t.cells 0 Undef)
+
+two_numbers : (a b : ℕ) → a ≡ 4294967294 → b ≡ 2147483648 → a ≡ b → ⊥
+two_numbers a b is_a is_b e = absurd (omega arith)
+
+-- the headline is false of the module that adds the first argument twice: device 0 ends with another first number
+twice_is_wrong : IsPartitioned (module_of 2 (source_func 4)) (module_of 2 twice_func) → ⊥
+unfolding local_value is_collective_at places_returned value_of elementwise is_stuck_somewhere element_of at cells_of cut_of start_in size_in local_extent part_size part_of offset_at offset_of parts_of place_in group_size_of on_axes mark_of offset_count offsets_of
+twice_is_wrong holds =
+    let ran = would_run twice_func refl holds (0 ∷ 1 ∷ []) _ refl in
+    two_numbers _ _ refl refl (ap first_number (ran.results refl 0 (omega arith)))
+
+-- it is false of the module with a wrong local type: the first turn is stuck
+undivided_is_wrong : IsPartitioned (module_of 2 (source_func 4)) (module_of 2 undivided_func) → ⊥
+unfolding local_value is_collective_at places_returned value_of elementwise is_stuck_somewhere element_of at cells_of cut_of start_in size_in local_extent part_size part_of offset_at offset_of parts_of place_in group_size_of on_axes mark_of offset_count offsets_of
+undivided_is_wrong holds =
+    let ran = would_run undivided_func refl holds [] _ refl in
+    let moves : false ≡ true = ran.no_fault 0 refl in
+    cc moves
+
+-- it is true of the right one
+right_is_right : IsPartitioned (module_of 2 (source_func 4)) (module_of 2 (device_func 4 2))
+right_is_right = sum_is_partitioned 4 2 (record { some_cells = omega arith; few_cells = omega arith; some_devices = omega arith; few_devices = omega arith; divisible = refl })

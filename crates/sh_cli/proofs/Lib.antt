@@ -1,0 +1,9 @@
+pub mod Begins
+pub mod Decimals
+pub mod ElementwiseCut
+pub mod Examples
+pub mod LineSharding
+pub mod Lines
+pub mod Readings
+pub mod SumHeadline
+pub mod SumMeaning

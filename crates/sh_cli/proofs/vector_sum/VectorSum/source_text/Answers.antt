@@ -1,0 +1,8 @@
+use Rattle.std.proofs.Common.{arith}
+use Rattle.std.proofs.lemmas.Grind.{common_steps}
+use Rattle.sh_cli.specs.VectorSum.{source_text}
+use Rattle.sh_cli.proofs.vector_sum.VectorSum.source_text.Goals as goal
+
+pub returns : goal.returns
+unfolding source_text
+returns c = grind (arith, common_steps)

@@ -1,0 +1,5 @@
+pub mod Answer
+pub mod Headline
+pub mod Modules
+pub mod VectorSum
+pub mod Words
