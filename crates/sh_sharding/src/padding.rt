@@ -2,22 +2,9 @@ ghost use Rattle.std.specs.Prelude.{◌≡◌, ◌+◌, ◌^◌, ◌<◌, ◌≤
 ghost use Rattle.sh_base.specs.Shape.{cell_count};
 ghost use Rattle.sh_sharding.specs.Windows.{padded_of, undefined_of};
 
-use sh_base::{Cell, MAX_RANK, Mem, Shape, Width, count, shape};
-use sh_tensor::{Tensor, build, concat};
+use sh_base::{Cell, Mem, Shape, Width, count};
+use sh_tensor::{Tensor, build, concat, with_extent};
 use std::alloc::Global;
-
-/// The shape with another extent on an axis. It takes no memory.
-fn with_extent(alloc: Global, s: &Shape, axis: u64, extent: u64) -> Shape
-    requires { axis < length s.now }
-    ensures { result ≡ set s.now axis extent }
-{
-    let old = s.extents();
-    let mut buffer = [0; MAX_RANK];
-    let extents = &mut buffer[..old.len()];
-    extents.copy_from_slice(old);
-    extents[axis as usize] = extent;
-    shape(alloc, extents)
-}
 
 /// A tensor of undefined cells.
 fn undefined(alloc: Global, shape: Shape, width: Width) -> Result<Tensor, Mem>

@@ -9,5 +9,6 @@ mod tensors;
 mod tests;
 
 pub use joins::concat;
+pub use shaping::with_extent;
 pub use slices::slice;
 pub use tensors::{Tensor, build, copy, reshape};
