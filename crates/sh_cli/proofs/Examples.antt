@@ -18,7 +18,7 @@ use Rattle.sh_ir.specs.declared.functions.Func.{Func}
 use Rattle.sh_tensor.specs.Tensor.{TensorValue, at, cells_of}
 use Rattle.sh_grid.specs.Grid.{place_in, group_size_of, on_axes}
 use Rattle.sh_int.specs.Elements.{element_of}
-use Rattle.sh_sharding.specs.Admission.{mark_of, offset_count}
+use Rattle.sh_sharding.specs.Admission.{mark_of, offset_count, halo_count}
 use Rattle.sh_sharding.specs.Cut.{cut_of}
 use Rattle.sh_sharding.specs.Sharding.{offset_of, parts_of, part_of, offset_at, part_size, start_in, size_in, local_extent, offsets_of}
 use Rattle.sh_sem.specs.Elementwise.{elementwise, is_stuck_somewhere}
@@ -58,11 +58,11 @@ ends_with_halves schedule =
     × (map (λ d. returned (on_two_devices (device_func 4 2) (left ∷ right ∷ [])) d.values) w ≡ (of_numbers (2147483648 ∷ 2 ∷ []) ∷ []) ∷ (of_numbers (3 ∷ 4 ∷ []) ∷ []) ∷ []))
 
 first_device_first : ends_with_halves (0 ∷ 1 ∷ [])
-unfolding local_value is_collective_at places_returned value_of elementwise is_stuck_somewhere element_of at cells_of cut_of start_in size_in local_extent part_size part_of offset_at offset_of parts_of place_in group_size_of on_axes mark_of offset_count offsets_of
+unfolding local_value is_collective_at places_returned value_of elementwise is_stuck_somewhere element_of at cells_of cut_of start_in size_in local_extent part_size part_of offset_at offset_of parts_of place_in group_size_of on_axes mark_of offset_count halo_count offsets_of
 first_device_first = (refl, refl)
 
 last_device_first : ends_with_halves (1 ∷ 0 ∷ [])
-unfolding local_value is_collective_at places_returned value_of elementwise is_stuck_somewhere element_of at cells_of cut_of start_in size_in local_extent part_size part_of offset_at offset_of parts_of place_in group_size_of on_axes mark_of offset_count offsets_of
+unfolding local_value is_collective_at places_returned value_of elementwise is_stuck_somewhere element_of at cells_of cut_of start_in size_in local_extent part_size part_of offset_at offset_of parts_of place_in group_size_of on_axes mark_of offset_count halo_count offsets_of
 last_device_first = (refl, refl)
 
 two_turns : turns (on_two_devices (device_func 4 2) (left ∷ right ∷ [])) ≡ 2
@@ -130,14 +130,14 @@ two_numbers a b is_a is_b e = absurd (omega arith)
 
 -- the headline is false of the module that adds the first argument twice: device 0 ends with another first number
 twice_is_wrong : IsPartitioned (module_of 2 (source_func 4)) (module_of 2 twice_func) → ⊥
-unfolding local_value is_collective_at places_returned value_of elementwise is_stuck_somewhere element_of at cells_of cut_of start_in size_in local_extent part_size part_of offset_at offset_of parts_of place_in group_size_of on_axes mark_of offset_count offsets_of
+unfolding local_value is_collective_at places_returned value_of elementwise is_stuck_somewhere element_of at cells_of cut_of start_in size_in local_extent part_size part_of offset_at offset_of parts_of place_in group_size_of on_axes mark_of offset_count halo_count offsets_of
 twice_is_wrong holds =
     let ran = would_run twice_func refl holds (0 ∷ 1 ∷ []) _ refl in
     two_numbers _ _ refl refl (ap first_number (ran.results refl 0 (omega arith)))
 
 -- it is false of the module with a wrong local type: the first turn is stuck
 undivided_is_wrong : IsPartitioned (module_of 2 (source_func 4)) (module_of 2 undivided_func) → ⊥
-unfolding local_value is_collective_at places_returned value_of elementwise is_stuck_somewhere element_of at cells_of cut_of start_in size_in local_extent part_size part_of offset_at offset_of parts_of place_in group_size_of on_axes mark_of offset_count offsets_of
+unfolding local_value is_collective_at places_returned value_of elementwise is_stuck_somewhere element_of at cells_of cut_of start_in size_in local_extent part_size part_of offset_at offset_of parts_of place_in group_size_of on_axes mark_of offset_count halo_count offsets_of
 undivided_is_wrong holds =
     let ran = would_run undivided_func refl holds [] _ refl in
     let moves : false ≡ true = ran.no_fault 0 refl in

@@ -9,7 +9,7 @@ use Rattle.sh_base.specs.declared.rules.Rule.{Rule}
 use Rattle.sh_base.specs.declared.rules.Rule.TheVariants.{A1, A2, A3, A4, A5, A6, A7, A8}
 use Rattle.sh_base.specs.Shape.{cell_count}
 use Rattle.sh_grid.specs.Grid.{GridValue, IsGrid, group_size_of, on_axes}
-use Rattle.sh_sharding.specs.Admission.{sharding_of, mark_of, offset_count, HalosFit, IsAdmitted, IsBelow, Keeps}
+use Rattle.sh_sharding.specs.Admission.{sharding_of, mark_of, offset_count, halo_count, HalosFit, IsAdmitted, IsBelow, Keeps}
 use Rattle.sh_sharding.specs.Sharding.{ShardingValue, IsSharding, IsDimension, IsDivided, HasNoHalos, parts_of, part_of, part_size, offset_of, offset_at, size_in, local_extent, local_shape, counted_cells, unsplit}
 use Rattle.sh_sharding.specs.declared.shardings.Dimension.{Dimension}
 use Rattle.sh_sharding.specs.declared.shardings.Mark.TheVariants.{Even}
@@ -33,7 +33,7 @@ take_none A (suc n) = refl
 
 -- what is written is this sharding
 pub is_line_sharding : (extent devices : ℕ) → sharding_of (line devices) by_axis_0 (shape_of (vector extent)) ≡ line_sharding extent devices
-unfolding mark_of offset_count
+unfolding mark_of offset_count halo_count
 is_line_sharding extent devices = rw (take_none ℤ (parts_of (devices ∷ []) (record (unsplit extent) { axes = 0 ∷ [] }) + 1)) refl
 
 pub parts_are : (extent devices : ℕ) → parts_of (devices ∷ []) (split_dimension extent) ≡ devices

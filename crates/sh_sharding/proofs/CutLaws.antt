@@ -1,15 +1,14 @@
 -- What is known of a cut, cell by cell.
-use Rattle.std.proofs.Common.{◌≡◌, ℕ, zero, suc, ◌+◌, ◌-◌, ◌<◌, ◌≤◌, List, [], ◌∷◌, length, get_or, map, Bool, true, false, refl, ap, ap₂, sym, ◌∙◌, arith, subst}
+use Rattle.std.proofs.Common.{◌≡◌, ℕ, ◌+◌, ◌-◌, ◌<◌, List, [], ◌∷◌, map, Bool, true, false, refl, ap, ap₂, sym, ◌∙◌, arith}
 use Rattle.std.specs.List.{AllByRecursion}
 use Rattle.std.specs.Prelude.{nat_le, nat_lt, ◌&&◌, if◌then◌else◌}
 use Rattle.std.proofs.lemmas.Bool.Decides.{nat_tests}
-use Rattle.sh_base.specs.Cells.{IsCellOf}
 use Rattle.sh_base.specs.declared.numbers.Cell.{Cell}
 use Rattle.sh_base.specs.declared.numbers.Cell.TheVariants.{Undef}
 use Rattle.sh_base.specs.declared.numbers.Width.{Width}
 use Rattle.sh_base.specs.Shape.{cell_count, IsIndexOf}
-use Rattle.sh_tensor.specs.Tensor.{TensorValue, IsTensor, at, build}
-use Rattle.sh_tensor.proofs.TensorLaws.{at-build, IsTensor-build, build-ext}
+use Rattle.sh_tensor.specs.Tensor.{TensorValue, at, build}
+use Rattle.sh_tensor.proofs.TensorLaws.{at-build, build-ext}
 use Rattle.sh_sharding.specs.declared.shardings.Dimension.{Dimension}
 use Rattle.sh_sharding.specs.Sharding.{ShardingValue, start_in, size_in, local_extent, local_shape, whole_of, HasNoHalos, IsSharding}
 use Rattle.sh_sharding.specs.Cut.{whole_index, is_inside, cut_cell, cut_of, CutsElementwise}

@@ -2,3 +2,10 @@ pub mod PartLaws
 pub mod CutLaws
 pub mod WindowLaws
 pub mod OwnerLaws
+pub mod AdmissionLaws
+pub mod DivisionLaws
+pub mod AdmittedLaws
+pub mod LargestLaws
+pub mod AdmissionSteps
+pub mod AdmitLaws
+pub mod LocalTypeLaws

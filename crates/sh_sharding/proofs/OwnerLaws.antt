@@ -1,24 +1,22 @@
 -- Each index of the whole has exactly one owner in each group, and what the cuts hold for it.
-use Rattle.std.proofs.Common.{◌≡◌, ℕ, zero, suc, ◌+◌, ◌-◌, ◌*◌, ◌<◌, ◌≤◌, ◌⊎◌, inl, inr, List, [], ◌∷◌, ◌++◌, length, get_or, map, sum, Bool, true, false, refl, ap, ap₂, sym, ◌∙◌, arith, subst}
+use Rattle.std.proofs.Common.{◌≡◌, ℕ, zero, suc, ◌+◌, ◌-◌, ◌<◌, ◌≤◌, ◌⊎◌, inl, inr, List, [], ◌∷◌, ◌++◌, length, get_or, map, sum, Bool, true, refl, ap, ap₂, sym, ◌∙◌, arith, subst}
 use Rattle.std.specs.List.{AllByRecursion, range_with_len}
 use Rattle.std.specs.Prelude.{nat_le, nat_lt, ◌&&◌, if◌then◌else◌}
 use Rattle.std.proofs.lemmas.Bool.Decides.{nat_tests}
 use Rattle.std.proofs.lemmas.List.{map-append}
 use Rattle.std.proofs.lemmas.List.FromFn.{sum_by-map-range_with_len_more}
-use Rattle.sh_base.specs.declared.numbers.Cell.{Cell}
 use Rattle.sh_base.specs.declared.numbers.Cell.TheVariants.{Undef}
 use Rattle.sh_base.specs.Shape.{cell_count, IsIndexOf, flat_of, unflat_of}
 use Rattle.sh_base.proofs.ShapeLaws.{unflat_of-within, unflat_of-flat_of, flat_of-unflat_of, flat_of-below}
 use Rattle.sh_base.proofs.IndexLaws.{cell_count-some}
 use Rattle.sh_grid.specs.Grid.{AreAxesOf, on_axes, place_in, group_size_of, member_of}
-use Rattle.sh_grid.proofs.GroupLaws.{IsIndexOf-on_axes, place_in-flat_of, place_in-below, member_of-below, place_in-member_of, length-on_axes}
-use Rattle.sh_tensor.specs.Tensor.{TensorValue, IsTensor, at}
+use Rattle.sh_grid.proofs.GroupLaws.{IsIndexOf-on_axes, place_in-flat_of, member_of-below, place_in-member_of}
+use Rattle.sh_tensor.specs.Tensor.{TensorValue, at}
 use Rattle.sh_tensor.proofs.TensorLaws.{tensor_ext}
-use Rattle.sh_sharding.specs.declared.shardings.Mark.{Mark}
 use Rattle.sh_sharding.specs.declared.shardings.Dimension.{Dimension}
-use Rattle.sh_sharding.specs.Sharding.{ShardingValue, offset_of, parts_of, part_of, offset_at, part_size, start_in, size_in, local_extent, local_shape, whole_of, axes_of, IsDivided, IsDimension, IsSharding}
-use Rattle.sh_sharding.specs.Cut.{whole_index, is_inside, cut_cell, cut_of, OwnsIn, Owns, local_index, held_cell, HasOneOwner, CutsDetermine, HoldsOwned, SizesSum}
-use Rattle.sh_sharding.proofs.PartLaws.{IsPlaced, placed, part-ends, part_of-below, axes_of-each, offset_of-rises}
+use Rattle.sh_sharding.specs.Sharding.{ShardingValue, offset_of, parts_of, part_of, offset_at, part_size, start_in, size_in, local_extent, whole_of, axes_of, IsDivided, IsDimension, IsSharding}
+use Rattle.sh_sharding.specs.Cut.{whole_index, is_inside, cut_of, OwnsIn, Owns, local_index, held_cell, HasOneOwner, CutsDetermine, HoldsOwned, SizesSum}
+use Rattle.sh_sharding.proofs.PartLaws.{IsPlaced, part-ends, part_of-below, axes_of-each, offset_of-rises}
 use Rattle.sh_sharding.proofs.CutLaws.{at-cut_of}
 
 -- ---- the part of an index
@@ -62,18 +60,18 @@ part_only g d x p q h lp lq pf pt qf qt = elim (lt_or_le p q) [
 
 -- ---- coordinates on the axes of all dimensions
 
-on_axes-append : (xs ys i : List ℕ) → on_axes (xs ++ ys) i ≡ on_axes xs i ++ on_axes ys i
+pub on_axes-append : (xs ys i : List ℕ) → on_axes (xs ++ ys) i ≡ on_axes xs i ++ on_axes ys i
 unfolding on_axes
 on_axes-append xs ys i = map-append (λ a. get_or i a 0) xs ys
 
-IsIndexOf-append : (s r i j : List ℕ) → IsIndexOf s i → IsIndexOf r j → IsIndexOf (s ++ r) (i ++ j)
+pub IsIndexOf-append : (s r i j : List ℕ) → IsIndexOf s i → IsIndexOf r j → IsIndexOf (s ++ r) (i ++ j)
 IsIndexOf-append [] r [] j h k = k
 IsIndexOf-append [] r (x ∷ i) j h k = absurd h
 IsIndexOf-append (n ∷ s) r [] j h k = absurd h
 IsIndexOf-append (n ∷ s) r (x ∷ i) j h k = (h.0, IsIndexOf-append s r i j h.1 k)
 
 -- two lists that are joined at the same place
-same_front : (s a b x y : List ℕ) → IsIndexOf s a → IsIndexOf s b → a ++ x ≡ b ++ y → (a ≡ b) × (x ≡ y)
+pub same_front : (s a b x y : List ℕ) → IsIndexOf s a → IsIndexOf s b → a ++ x ≡ b ++ y → (a ≡ b) × (x ≡ y)
 same_front [] [] [] x y h k e = (refl, e)
 same_front [] [] (z ∷ b) x y h k e = absurd k
 same_front [] (z ∷ a) b x y h k e = absurd h
@@ -85,7 +83,7 @@ same_front (n ∷ s) (z ∷ a) (w ∷ b) x y h k e =
     let rec = same_front s a b x y h.1 k.1 tails in
     (ap₂ ◌∷◌ heads rec.0, rec.1)
 
-part_of-entries : (g : List ℕ) (d : Dimension) (e q : ℕ) → q < parts_of g d → on_axes d.axes (unflat_of g e) ≡ unflat_of (on_axes d.axes g) q → part_of g d e ≡ q
+pub part_of-entries : (g : List ℕ) (d : Dimension) (e q : ℕ) → q < parts_of g d → on_axes d.axes (unflat_of g e) ≡ unflat_of (on_axes d.axes g) q → part_of g d e ≡ q
 unfolding part_of parts_of group_size_of
 part_of-entries g d e q l h = place_in-flat_of g d.axes e ∙ ap (flat_of (on_axes d.axes g)) h ∙ flat_of-unflat_of (on_axes d.axes g) q l
 
@@ -161,7 +159,7 @@ owners_agree g (d ∷ ds) (x ∷ i) e f m ok le lf he hf =
 
 -- ---- owners
 
-on_axes-place_in : (g axes : List ℕ) (e : ℕ) → e < cell_count g → AreAxesOf (length g) axes → on_axes axes (unflat_of g e) ≡ unflat_of (on_axes axes g) (place_in g axes e)
+pub on_axes-place_in : (g axes : List ℕ) (e : ℕ) → e < cell_count g → AreAxesOf (length g) axes → on_axes axes (unflat_of g e) ≡ unflat_of (on_axes axes g) (place_in g axes e)
 on_axes-place_in g axes e h m =
     sym (ap (unflat_of (on_axes axes g)) (place_in-flat_of g axes e)
     ∙ unflat_of-flat_of (on_axes axes g) (on_axes axes (unflat_of g e)) (IsIndexOf-on_axes g (unflat_of g e) axes (unflat_of-within g e h) m))

@@ -1,10 +1,10 @@
 -- The parts of a dimension, and the part of a device.
-use Rattle.std.proofs.Common.{◌≡◌, ℕ, zero, suc, ◌+◌, ◌-◌, ◌*◌, ◌/◌, ◌%◌, ◌<◌, ◌≤◌, ◌⊎◌, List, [], ◌∷◌, ◌++◌, length, get_or, map, max, refl, ap, sym, ◌∙◌, arith, subst, inl, inr}
-use Rattle.std.specs.List.{AllByRecursion, flat_map}
+use Rattle.std.proofs.Common.{◌≡◌, ℕ, zero, suc, ◌+◌, ◌-◌, ◌*◌, ◌/◌, ◌<◌, ◌≤◌, ◌⊎◌, List, [], ◌∷◌, ◌++◌, length, get_or, map, max, ap, sym, ◌∙◌, arith, subst, inl, inr}
+use Rattle.std.specs.List.{AllByRecursion}
 use Rattle.std.proofs.lemmas.List.{get_or_read}
 use Rattle.std.proofs.lemmas.Nat.{mul-le}
 use Rattle.std.proofs.Math.Nat.{mul-le-mul_left, mul-le-mul_right}
-use Rattle.sh_base.specs.Shape.{cell_count, IsIndexOf}
+use Rattle.sh_base.specs.Shape.{cell_count}
 use Rattle.sh_grid.specs.Grid.{IsGrid, IsNoneOf, AreAxesOf, group_size_of, place_in}
 use Rattle.sh_base.proofs.IndexLaws.{cell_count-some}
 use Rattle.sh_grid.proofs.GroupLaws.{place_in-below}
@@ -12,7 +12,7 @@ use Rattle.sh_grid.proofs.GroupSteps.{group_size_of-le}
 use Rattle.sh_sharding.specs.declared.shardings.Mark.{Mark}
 use Rattle.sh_sharding.specs.declared.shardings.Mark.TheVariants.{Even, Offsets}
 use Rattle.sh_sharding.specs.declared.shardings.Dimension.{Dimension}
-use Rattle.sh_sharding.specs.Sharding.{ShardingValue, offset_of, parts_of, part_of, offset_at, part_size, start_in, size_in, local_extent, axes_of, unsplit, counted_cells, IsDivided, IsNormalMark, IsDimension, IsSharding}
+use Rattle.sh_sharding.specs.Sharding.{ShardingValue, offset_of, parts_of, part_of, offset_at, part_size, start_in, size_in, axes_of, unsplit, counted_cells, IsDivided, IsNormalMark, IsDimension, IsSharding}
 
 -- ---- parts
 
@@ -100,7 +100,7 @@ pub record IsRead (s : ShardingValue) (dim : ℕ) (d : Dimension) : Type 0 where
   pub small : d.extent ≤ 1048576
 
 -- an extent is at most the count of cells
-extents_few : (ds : List Dimension) (top : ℕ) → counted_cells (map (λ d. d.extent) ds) ≤ top → AllByRecursion (λ d. d.extent ≤ top) ds
+pub extents_few : (ds : List Dimension) (top : ℕ) → counted_cells (map (λ d. d.extent) ds) ≤ top → AllByRecursion (λ d. d.extent ≤ top) ds
 extents_few [] top h = tt
 extents_few (d ∷ ds) top h =
     let some = counted_some (map (λ d. d.extent) ds) in

@@ -1,5 +1,5 @@
 -- The rules A1 to A8 on a sharding as it is written, and the sharding that it stands for.
-use Rattle.std.specs.Prelude.{◌≡◌, ◌≢◌, ℕ, ◌+◌, ◌*◌, ◌%◌, ◌<◌, ◌≤◌, ◌==◌, List, [], ◌∷◌, length, map, take, drop, get_or, count_by, Bool, true, false, if◌then◌else◌, ℤ, pos, negsuc, ◌≤ℤ◌, ◌<ℤ◌, nat_eq, All}
+use Rattle.std.specs.Prelude.{◌≡◌, ◌≢◌, ℕ, ◌+◌, ◌*◌, ◌%◌, ◌<◌, ◌≤◌, ◌==◌, List, [], ◌∷◌, length, map, take, drop, get_or, slice_index_or, count_by, Bool, true, false, if◌then◌else◌, ℤ, pos, negsuc, ◌≤ℤ◌, ◌<ℤ◌, nat_eq, All}
 use Rattle.std.specs.List.{AllByRecursion, flat_map}
 use Rattle.std.specs.Cmp.Lexicographic.{pointwise}
 use Rattle.sh_base.specs.declared.rules.Rule.{Rule}
@@ -7,6 +7,8 @@ use Rattle.sh_base.specs.declared.rules.Rule.TheVariants.{A1, A2, A3, A4, A5, A6
 use Rattle.sh_base.specs.Shape.{cell_count}
 use Rattle.sh_grid.specs.Grid.{GridValue}
 use Rattle.sh_ir.specs.declared.types.RawSharding.{RawSharding}
+use Rattle.sh_sharding.specs.declared.admission.AdmitRefusal.{AdmitRefusal}
+use Rattle.sh_sharding.specs.declared.admission.AdmitRefusal.TheVariants.{Broken, Mem}
 use Rattle.sh_sharding.specs.declared.shardings.Mark.{Mark}
 use Rattle.sh_sharding.specs.declared.shardings.Mark.TheVariants.{Even, Offsets}
 use Rattle.sh_sharding.specs.declared.shardings.Dimension.{Dimension}
@@ -51,20 +53,27 @@ unfoldable pub mark_of : ℕ → ℕ → List ℕ → Mark
 mark_of extent parts [] = Even
 mark_of extent parts (o ∷ offsets) = if pointwise nat_eq (o ∷ offsets) (offsets_of extent parts Even) then Even else Offsets (o ∷ offsets)
 
+-- a dimension with these offsets
+abbrev pub with_mark : List ℕ → Dimension → List ℤ → Dimension
+with_mark g d offsets = record d { mark = mark_of d.extent (parts_of g d) (map natural offsets) }
+
 -- the dimensions with their offsets
 abbrev pub marked : List ℕ → List Dimension → List ℤ → List Dimension
 marked g [] offsets = []
-marked g (d ∷ ds) offsets =
-    record d { mark = mark_of d.extent (parts_of g d) (map natural (take (offset_count g d) offsets)) }
-    ∷ marked g ds (drop (offset_count g d) offsets)
+marked g (d ∷ ds) offsets = with_mark g d (take (offset_count g d) offsets) ∷ marked g ds (drop (offset_count g d) offsets)
+
+-- how many of the written halo sizes are a dimension's
+unfoldable pub halo_count : Dimension → ℕ
+halo_count d = if is_split d then 2 else 0
+
+-- a dimension with these halo sizes, of which there are none or two
+abbrev pub haloed : Dimension → List ℤ → Dimension
+haloed d halos = record d { low = natural (slice_index_or halos 0 (pos 0)); high = natural (slice_index_or halos 1 (pos 0)) }
 
 -- the dimensions with their halos
 abbrev pub with_halos : List Dimension → List ℤ → List Dimension
 with_halos [] halos = []
-with_halos (d ∷ ds) halos =
-    if is_split d
-    then record d { low = natural (get_or halos 0 (pos 0)); high = natural (get_or halos 1 (pos 0)) } ∷ with_halos ds (drop 2 halos)
-    else d ∷ with_halos ds halos
+with_halos (d ∷ ds) halos = haloed d (take (halo_count d) halos) ∷ with_halos ds (drop (halo_count d) halos)
 
 -- the sharding that is written, in normal form
 abbrev pub sharding_of : GridValue → RawSharding → List ℕ → ShardingValue
@@ -80,12 +89,14 @@ pub record AreOffsets (extent parts : ℕ) (offsets : List ℤ) : Type 0 where
   pub rises : (i : ℕ) → i < parts → get_or offsets i (pos 0) ≤ℤ get_or offsets (i + 1) (pos 0)
   pub ends : get_or offsets parts (pos 0) ≡ pos extent
 
+-- the offsets of a dimension, if it is split
+abbrev pub HasOffsets : List ℕ → Dimension → List ℤ → Type 0
+HasOffsets g d offsets = is_split d ≡ true → AreOffsets d.extent (parts_of g d) offsets
+
 -- offsets of the split dimensions, in order, and none besides
 abbrev pub AreAllOffsets : List ℕ → List Dimension → List ℤ → Type 0
 AreAllOffsets g [] offsets = offsets ≡ []
-AreAllOffsets g (d ∷ ds) offsets =
-    (is_split d ≡ true → AreOffsets d.extent (parts_of g d) (take (offset_count g d) offsets))
-    × AreAllOffsets g ds (drop (offset_count g d) offsets)
+AreAllOffsets g (d ∷ ds) offsets = HasOffsets g d (take (offset_count g d) offsets) × AreAllOffsets g ds (drop (offset_count g d) offsets)
 
 -- no halo is longer than a part of its dimension
 abbrev pub HalosFit : List ℕ → Dimension → Type 0
@@ -106,6 +117,23 @@ Keeps A8 g raw s =
     × ((device : ℕ) → device < cell_count g.extents → counted_cells (local_shape (sharding_of g raw s) device) ≤ 1048576)
 Keeps _ g raw s = Unit {0}
 
+-- the rules on lists of axes alone
+pub record KeepsLists (g : GridValue) (raw : RawSharding) (s : List ℕ) : Type 0 where
+  pub axes : Keeps A1 g raw s
+  pub once : Keeps A2 g raw s
+  pub few : Keeps A3 g raw s
+
+-- the rules on how the dimensions are divided
+pub record KeepsDivisions (g : GridValue) (raw : RawSharding) (s : List ℕ) : Type 0 where
+  pub even : Keeps A4 g raw s
+  pub offsets : Keeps A5 g raw s
+
+-- the rules on halos, but for the size of the largest local tensor
+pub record KeepsHalos (g : GridValue) (raw : RawSharding) (s : List ℕ) : Type 0 where
+  pub alone : Keeps A6 g raw s
+  pub counted : Keeps A7 g raw s
+  pub fit : AllByRecursion (HalosFit g.extents) (sharding_of g raw s).dimensions
+
 abbrev pub rules_before : Rule → List Rule
 rules_before A2 = A1 ∷ []
 rules_before A3 = A1 ∷ A2 ∷ []
@@ -124,3 +152,8 @@ pub record IsAdmitted (g : GridValue) (raw : RawSharding) (s : List ℕ) : Type 
 pub record IsLeastBroken (rule : Rule) (g : GridValue) (raw : RawSharding) (s : List ℕ) : Type 0 where
   pub broken : ¬ Keeps rule g raw s
   pub earlier : AllByRecursion (λ kept. Keeps kept g raw s) (rules_before rule)
+
+-- what a refusal says: the least broken rule, or nothing where memory is wanting
+abbrev pub IsRefusal : AdmitRefusal → GridValue → RawSharding → List ℕ → Type 0
+IsRefusal (Broken rule) g raw s = IsLeastBroken rule g raw s
+IsRefusal Mem g raw s = Unit {0}

@@ -2,3 +2,4 @@ pub mod Sharding
 pub mod Cut
 pub mod Admission
 pub mod Windows
+pub mod LocalTypes

@@ -1,5 +1,5 @@
 -- Shardings: how the dimensions of a tensor are divided among the devices of a grid.
-use Rattle.std.specs.Prelude.{◌≡◌, ◌≢◌, ℕ, ◌+◌, ◌-◌, ◌*◌, ◌/◌, ◌%◌, ◌<◌, ◌≤◌, List, [], ◌∷◌, length, map, max, slice_index, get_or}
+use Rattle.std.specs.Prelude.{◌≡◌, ◌≢◌, ℕ, zero, suc, ◌+◌, ◌-◌, ◌*◌, ◌/◌, ◌<◌, ◌≤◌, List, [], length, map, max, slice_index, get_or}
 use Rattle.std.specs.List.{AllByRecursion, flat_map, range_with_len}
 use Rattle.sh_base.specs.Shape.{cell_count}
 use Rattle.sh_grid.specs.Grid.{GridValue, IsGrid, AreAxesOf, group_size_of, place_in}
@@ -35,6 +35,15 @@ offset_at g d i = offset_of d.extent (parts_of g d) d.mark i
 -- how long a part is
 unfoldable pub part_size : List ℕ → Dimension → ℕ → ℕ
 part_size g d i = offset_at g d (i + 1) - offset_at g d i
+
+-- the length of the largest of the first k parts
+abbrev pub largest_to : List ℕ → Dimension → ℕ → ℕ
+largest_to g d zero = 0
+largest_to g d (suc k) = max (largest_to g d k) (part_size g d k)
+
+-- the extent of the largest local tensor along a dimension, halos included
+abbrev pub largest_local : List ℕ → Dimension → ℕ
+largest_local g d = d.low + largest_to g d (parts_of g d) + d.high
 
 -- where a device's part begins, how long it is, and how long it is with its halos
 unfoldable pub start_in : List ℕ → ℕ → Dimension → ℕ
@@ -93,6 +102,12 @@ offsets_of extent parts mark = map (offset_of extent parts mark) (range_with_len
 abbrev pub IsNormalMark : ℕ → ℕ → Mark → Type 0
 IsNormalMark extent parts Even = Unit {0}
 IsNormalMark extent parts (Offsets offsets) = (length offsets ≡ parts + 1) × (offsets ≢ offsets_of extent parts Even)
+
+-- a dimension whose axes and mark are in order
+pub record IsMarked (g : List ℕ) (d : Dimension) : Type 0 where
+  pub axes : AreAxesOf (length g) d.axes
+  pub divided : IsDivided d.extent (parts_of g d) d.mark
+  pub normal : IsNormalMark d.extent (parts_of g d) d.mark
 
 -- a dimension of an admitted sharding in normal form: no halo is longer than a part
 pub record IsDimension (g : List ℕ) (d : Dimension) : Type 0 where

@@ -7,7 +7,7 @@ use Rattle.sh_base.specs.declared.numbers.Width.{Width}
 use Rattle.sh_base.specs.Shape.{cell_count}
 use Rattle.sh_tensor.specs.Tensor.{TensorValue, at, build}
 use Rattle.sh_sharding.specs.declared.shardings.Dimension.{Dimension}
-use Rattle.sh_sharding.specs.Sharding.{start_in, size_in, local_extent}
+use Rattle.sh_sharding.specs.Sharding.{start_in, size_in}
 
 -- ---- one dimension
 

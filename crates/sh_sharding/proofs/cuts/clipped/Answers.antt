@@ -1,6 +1,6 @@
-use Rattle.std.proofs.Common.{◌≡◌, ◌<◌, length, map, arith, sym, ◌∙◌, ap}
+use Rattle.std.proofs.Common.{◌<◌, length, sym, ◌∙◌, ap}
 use Rattle.std.proofs.lemmas.List.{length-map}
-use Rattle.sh_sharding.proofs.WindowLaws.{IsSliceStep, slice_step, sliced_by-none}
+use Rattle.sh_sharding.proofs.WindowLaws.{slice_step, sliced_by-none}
 use Rattle.sh_sharding.proofs.cuts.clipped.Goals as goal
 
 pub loop-dim-init : goal.loop-dim-init

@@ -1,6 +1,6 @@
-use Rattle.std.proofs.Common.{◌≡◌, ◌<◌, length, arith, sym, ◌∙◌, ap}
+use Rattle.std.proofs.Common.{◌≡◌, ◌<◌, length, arith, sym, ◌∙◌}
 use Rattle.sh_sharding.specs.Windows.{sliced_by}
-use Rattle.sh_sharding.proofs.WindowLaws.{IsPadStep, pad_step, padded_start, cut_end}
+use Rattle.sh_sharding.proofs.WindowLaws.{pad_step, padded_start, cut_end}
 use Rattle.sh_sharding.proofs.cuts.cut.Goals as goal
 
 pub loop-dim-init : goal.loop-dim-init

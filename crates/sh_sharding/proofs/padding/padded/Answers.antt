@@ -1,6 +1,4 @@
-use Rattle.std.proofs.Common.{◌≡◌, ◌+◌, ◌≤◌, set, get_or, arith, sym, ◌∙◌, ap, ap₂}
-use Rattle.sh_base.specs.Shape.{cell_count}
-use Rattle.sh_tensor.specs.Tensor.{concat_of}
+use Rattle.std.proofs.Common.{◌≡◌, ◌+◌, set, get_or, arith, ◌∙◌, ap, ap₂}
 use Rattle.sh_sharding.specs.Windows.{undefined_of}
 use Rattle.sh_sharding.proofs.WindowLaws.{padded_of-none, pad_join, fewer_cells}
 use Rattle.sh_sharding.proofs.padding.padded.Goals as goal

@@ -1,6 +1,5 @@
-use Rattle.std.proofs.Common.{◌≡◌, ◌+◌, ◌≤◌, length, arith, sym, ◌∙◌, ap}
-use Rattle.sh_sharding.specs.Sharding.{parts_of}
-use Rattle.sh_sharding.proofs.PartLaws.{IsOffset, even_offset, written_offset, written_long}
+use Rattle.std.proofs.Common.{arith}
+use Rattle.sh_sharding.proofs.PartLaws.{even_offset, written_offset}
 use Rattle.sh_sharding.proofs.parts.offset.Goals as goal
 
 pub overflow_mul-result : goal.overflow_mul-result

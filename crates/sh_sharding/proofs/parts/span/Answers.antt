@@ -1,6 +1,6 @@
-use Rattle.std.proofs.Common.{◌≡◌, ◌+◌, ◌<◌, ◌≤◌, length, arith, sym, ◌∙◌, ap}
+use Rattle.std.proofs.Common.{arith}
 use Rattle.sh_sharding.specs.Sharding.{parts_of}
-use Rattle.sh_sharding.proofs.PartLaws.{IsSpan, is_span, part-few}
+use Rattle.sh_sharding.proofs.PartLaws.{is_span, part-few}
 use Rattle.sh_sharding.proofs.parts.span.Goals as goal
 
 pub overflow_add-part : goal.overflow_add-part

@@ -1,4 +1,4 @@
-use Rattle.sh_sharding.proofs.PartLaws.{IsRead, read_through}
+use Rattle.sh_sharding.proofs.PartLaws.{read_through}
 use Rattle.sh_sharding.proofs.views.dimension.Goals as goal
 
 pub returns-clause-value : goal.returns-clause-value

@@ -1,0 +1,254 @@
+-- The steps by which written offsets and halos are given to the dimensions.
+use Rattle.std.proofs.Common.{◌≡◌, ◌≢◌, ℕ, zero, suc, ◌+◌, ◌-◌, ◌<◌, ◌≤◌, ◌⊎◌, inl, inr, List, [], ◌∷◌, ◌++◌, length, get_or, map, take, drop, min, max, Bool, true, false, refl, ap, ap₂, sym, ◌∙◌, arith, subst, ℤ, pos}
+use Rattle.std.specs.Prelude.{if◌then◌else◌}
+use Rattle.std.specs.List.{AllByRecursion, All}
+use Rattle.std.proofs.lemmas.Int.{ints}
+use Rattle.std.proofs.lemmas.List.{at_drop_more, at_drop_all, append_assoc, append-nil}
+use Rattle.std.proofs.lemmas.List.Elements.{All-drop}
+use Rattle.sh_base.proofs.IndexLaws.{cell_count-some}
+use Rattle.sh_grid.specs.Grid.{IsGrid, AreAxesOf, group_size_of}
+use Rattle.sh_sharding.specs.declared.shardings.Mark.{Mark}
+use Rattle.sh_sharding.specs.declared.shardings.Dimension.{Dimension}
+use Rattle.sh_sharding.specs.Sharding.{parts_of, part_of, offset_at, part_size, largest_to, IsDivided}
+use Rattle.sh_sharding.specs.Admission.{natural, IsNatural, is_split, offset_count, halo_count, haloed, with_mark, marked, with_halos, mark_of, AreOffsets, HasOffsets, AreAllOffsets, HalosFit}
+use Rattle.sh_sharding.proofs.PartLaws.{part-ends, part_of-below}
+
+-- ---- offsets
+
+pub record IsMarking (g : List ℕ) (ds : List Dimension) (offsets : List ℤ) (i : ℕ) (out : List Dimension) (rest : List ℤ) : Type 0 where
+  pub done : out ++ marked g (drop i ds) rest ≡ marked g ds offsets
+  pub forth : AreAllOffsets g (drop i ds) rest → AreAllOffsets g ds offsets
+  pub back : AreAllOffsets g ds offsets → AreAllOffsets g (drop i ds) rest
+
+pub marking_start : (g : List ℕ) (ds : List Dimension) (offsets : List ℤ) → IsMarking g ds offsets 0 [] offsets
+marking_start g ds offsets = record { done = refl; forth = λ h. h; back = λ h. h }
+
+-- one dimension more, which has its offsets
+pub marking_more : (g : List ℕ) (ds : List Dimension) (offsets : List ℤ) (i : ℕ) (out : List Dimension) (rest mine others : List ℤ) (d e : Dimension) → IsMarking g ds offsets i out rest → i < length ds
+    → d ≡ get_or ds i d → mine ≡ take (offset_count g d) rest → others ≡ drop (offset_count g d) rest → HasOffsets g d mine → e ≡ with_mark g d mine
+    → IsMarking g ds offsets (i + 1) (out ++ e ∷ []) others
+marking_more g ds offsets i out rest mine others d e h l read em eo has ee =
+    let next : drop i ds ≡ d ∷ drop (i + 1) ds = at_drop_more (λ xs. xs) ds i d l ∙ ap (λ z. z ∷ drop (i + 1) ds) (sym read) in
+    let head : e ≡ with_mark g d (take (offset_count g d) rest) = ee ∙ ap (with_mark g d) em in
+    record {
+      done =
+          append_assoc out (e ∷ []) (marked g (drop (i + 1) ds) others)
+          ∙ ap (λ z. out ++ z) (ap₂ (λ x ys. x ∷ marked g (drop (i + 1) ds) ys) head eo ∙ sym (ap (λ xs. marked g xs rest) next))
+          ∙ h.done;
+      forth = λ k. h.forth (subst (λ xs. AreAllOffsets g xs rest) (sym next) (subst (HasOffsets g d) em has, subst (AreAllOffsets g (drop (i + 1) ds)) eo k));
+      back = λ k. subst (AreAllOffsets g (drop (i + 1) ds)) (sym eo) (subst (λ xs. AreAllOffsets g xs rest) next (h.back k)).1;
+    }
+
+-- a dimension that doesn't have its offsets
+pub marking_broken : (g : List ℕ) (ds : List Dimension) (offsets : List ℤ) (i : ℕ) (out : List Dimension) (rest mine : List ℤ) (d : Dimension) → IsMarking g ds offsets i out rest → i < length ds
+    → d ≡ get_or ds i d → mine ≡ take (offset_count g d) rest → ¬ HasOffsets g d mine → ¬ AreAllOffsets g ds offsets
+marking_broken g ds offsets i out rest mine d h l read em broken = λ all.
+    let next : drop i ds ≡ d ∷ drop (i + 1) ds = at_drop_more (λ xs. xs) ds i d l ∙ ap (λ z. z ∷ drop (i + 1) ds) (sym read) in
+    broken (subst (HasOffsets g d) (sym em) (subst (λ xs. AreAllOffsets g xs rest) next (h.back all)).0)
+
+pub record AreMarked (g : List ℕ) (ds : List Dimension) (offsets : List ℤ) (out : List Dimension) (rest : List ℤ) : Type 0 where
+  pub value : out ≡ marked g ds offsets
+  pub forth : rest ≡ [] → AreAllOffsets g ds offsets
+  pub back : AreAllOffsets g ds offsets → rest ≡ []
+
+pub marking_end : (g : List ℕ) (ds : List Dimension) (offsets : List ℤ) (i : ℕ) (out : List Dimension) (rest : List ℤ) → IsMarking g ds offsets i out rest → length ds ≤ i → AreMarked g ds offsets out rest
+marking_end g ds offsets i out rest h le =
+    let none : drop i ds ≡ [] = at_drop_all (λ xs. xs) ds i le in
+    record {
+      value = sym (append-nil out) ∙ ap (λ z. out ++ z) (sym (ap (λ xs. marked g xs rest) none)) ∙ h.done;
+      forth = λ e. h.forth (subst (λ xs. AreAllOffsets g xs rest) (sym none) e);
+      back = λ k. subst (λ xs. AreAllOffsets g xs rest) none (h.back k);
+    }
+
+-- ---- halos
+
+pub record IsFitting (g : List ℕ) (d : Dimension) (halo part start : ℕ) : Type 0 where
+  pub begins : start ≡ offset_at g d part
+  pub fits : (i : ℕ) → i < part → halo ≤ part_size g d i
+
+-- ---- the largest part
+
+pub record IsLargest (g : List ℕ) (d : Dimension) (part start most : ℕ) : Type 0 where
+  pub begins : start ≡ offset_at g d part
+  pub value : most ≡ largest_to g d part
+  pub within : most ≤ d.extent
+
+pub count_split : (g : List ℕ) (d : Dimension) (n : ℕ) → is_split d ≡ true → n ≡ group_size_of g d.axes → n + 1 ≡ offset_count g d
+unfolding offset_count parts_of
+count_split g d n h e = ap (λ z. z + 1) e ∙ sym (ap (λ (b : Bool). if b then group_size_of g d.axes + 1 else 0) h)
+
+pub count_unsplit : (g : List ℕ) (d : Dimension) → is_split d ≡ false → 0 ≡ offset_count g d
+unfolding offset_count parts_of
+count_unsplit g d h = sym (ap (λ (b : Bool). if b then group_size_of g d.axes + 1 else 0) h)
+
+bool_cases : (b : Bool) → (b ≡ true) ⊎ (b ≡ false)
+bool_cases true = inl refl
+bool_cases false = inr refl
+
+pub asked_offsets : (g : List ℕ) (d : Dimension) (n : ℕ) (os : List ℤ) → n ≡ group_size_of g d.axes → (is_split d ≡ false → os ≡ []) → HasOffsets g d os → os ≢ [] → AreOffsets d.extent n os
+unfolding parts_of
+asked_offsets g d n os e none has some = elim (bool_cases (is_split d)) [
+  | inl split ↦ subst (λ m. AreOffsets d.extent m os) (sym e) (has split)
+  | inr whole ↦ absurd (some (none whole))
+]
+
+pub has_is : (g : List ℕ) (d : Dimension) (n : ℕ) (os : List ℤ) (r : Bool) → n ≡ group_size_of g d.axes → is_split d ≡ true → (r ≡ true → AreOffsets d.extent n os) × (AreOffsets d.extent n os → r ≡ true)
+    → (r ≡ true → HasOffsets g d os) × (HasOffsets g d os → r ≡ true)
+unfolding parts_of
+has_is g d n os r e split is =
+    (λ t s. subst (λ m. AreOffsets d.extent m os) e (is.0 t), λ h. is.1 (subst (λ m. AreOffsets d.extent m os) (sym e) (h split)))
+
+pub made_mark : (g : List ℕ) (d : Dimension) (n : ℕ) (os : List ℤ) (axes : List ℕ) (mark : Mark) → n ≡ group_size_of g d.axes → axes ≡ d.axes → mark ≡ mark_of d.extent n (map natural os)
+    → record { extent = d.extent; axes = axes; mark = mark; low = d.low; high = d.high } ≡ with_mark g d os
+unfolding parts_of
+made_mark g d n os axes mark en ea em =
+    let em' : mark ≡ mark_of d.extent (group_size_of g d.axes) (map natural os) = em ∙ ap (λ m. mark_of d.extent m (map natural os)) en in
+    λ j. record { extent = d.extent; axes = ea j; mark = em' j; low = d.low; high = d.high }
+
+pub none_taken : (g : List ℕ) (d : Dimension) (rest mine : List ℤ) (count least : ℕ) → is_split d ≡ false → count ≡ offset_count g d → least ≡ min count (length rest) → mine ≡ take least rest → mine ≡ []
+none_taken g d rest mine count least h e el em =
+    let zero_count : count ≡ 0 = e ∙ sym (count_unsplit g d h) in
+    let none : least ≡ 0 = omega arith in
+    em ∙ ap (λ n. take n rest) none
+
+-- ---- halos
+
+pub size_read : (g : List ℕ) (d : Dimension) (i from to : ℕ) → from ≡ offset_at g d i → to ≡ offset_at g d (i + 1) → to - from ≡ part_size g d i
+unfolding part_size
+size_read g d i from to ef et = omega arith
+
+pub ordered_read : (g : List ℕ) (d : Dimension) (i from to : ℕ) → IsDivided d.extent (parts_of g d) d.mark → i < parts_of g d → from ≡ offset_at g d i → to ≡ offset_at g d (i + 1) → from ≤ to
+unfolding offset_at
+ordered_read g d i from to h l ef et = let rise = h.rises i l in omega arith
+
+lt_or_same : (i k : ℕ) → i < k + 1 → (i < k) ⊎ (i ≡ k)
+lt_or_same i k h = grind arith
+
+pub fitting_more : (g : List ℕ) (d : Dimension) (halo part start end : ℕ) → IsFitting g d halo part start → end ≡ offset_at g d (part + 1) → halo ≤ end - start → IsFitting g d halo (part + 1) end
+fitting_more g d halo part start end h e le = record {
+  begins = e;
+  fits = λ i l. elim (lt_or_same i part l) [
+    | inl less ↦ h.fits i less
+    | inr same ↦
+        let read : end - start ≡ part_size g d part = size_read g d part start end h.begins e in
+        let here : halo ≤ part_size g d part = omega arith in
+        subst (λ z. halo ≤ part_size g d z) (sym same) here
+  ];
+}
+
+pub largest_more : (g : List ℕ) (d : Dimension) (part start most end found : ℕ) → IsDivided d.extent (parts_of g d) d.mark → part < parts_of g d → IsLargest g d part start most → end ≡ offset_at g d (part + 1) → end ≤ d.extent
+    → found ≡ max most (end - start) → IsLargest g d (part + 1) end found
+largest_more g d part start most end found ok l h e within ef =
+    let read : end - start ≡ part_size g d part = size_read g d part start end h.begins e in
+    let value = h.value in
+    let small = h.within in
+    record {
+      begins = e;
+      value = ef ∙ ap₂ max value read ∙ largest_next g d part;
+      within = omega arith;
+    }
+  where
+    largest_next : (g : List ℕ) (d : Dimension) (k : ℕ) → max (largest_to g d k) (part_size g d k) ≡ largest_to g d (k + 1)
+    largest_next g d k = let same : suc k ≡ k + 1 = omega arith in ap (largest_to g d) same
+
+-- ---- halos, dimension by dimension
+
+pub part_size-haloed : (g : List ℕ) (d : Dimension) (hs : List ℤ) (i : ℕ) → part_size g (haloed d hs) i ≡ part_size g d i
+unfolding part_size offset_at parts_of
+part_size-haloed g d hs i = refl
+
+pub parts_of-haloed : (g : List ℕ) (d : Dimension) (hs : List ℤ) → parts_of g (haloed d hs) ≡ parts_of g d
+unfolding parts_of
+parts_of-haloed g d hs = refl
+
+pub natural_at : (hs : List ℤ) (k : ℕ) → All IsNatural hs → IsNatural (get_or hs k (pos 0))
+natural_at [] k h = omega (arith, ints)
+natural_at (z ∷ hs) zero h = h 0 (pos 0) (omega arith)
+natural_at (z ∷ hs) (suc k) h = natural_at hs k (λ i d l. h (suc i) d (omega arith))
+
+pub halos_fit : (g : List ℕ) (d : Dimension) (hs : List ℤ) (low high : ℕ) → low ≡ natural (get_or hs 0 (pos 0)) → high ≡ natural (get_or hs 1 (pos 0))
+    → ((i : ℕ) → i < parts_of g d → max low high ≤ part_size g d i) → HalosFit g (haloed d hs)
+halos_fit g d hs low high el eh h = λ i l.
+    let le = h i (subst (λ n. i < n) (parts_of-haloed g d hs) l) in
+    let same = part_size-haloed g d hs i in
+    (omega arith, omega arith)
+
+pub halos_misfit : (g : List ℕ) (d : Dimension) (hs : List ℤ) (low high : ℕ) → low ≡ natural (get_or hs 0 (pos 0)) → high ≡ natural (get_or hs 1 (pos 0))
+    → HalosFit g (haloed d hs) → (i : ℕ) → i < parts_of g d → max low high ≤ part_size g d i
+halos_misfit g d hs low high el eh h i l =
+    let both = h i (subst (λ n. i < n) (sym (parts_of-haloed g d hs)) l) in
+    let first = both.0 in
+    let second = both.1 in
+    let same = part_size-haloed g d hs i in
+    omega arith
+
+-- a halo that fits is no longer than its dimension
+pub halo_small : (g : List ℕ) (d : Dimension) (halo : ℕ) → IsDivided d.extent (parts_of g d) d.mark → 0 < parts_of g d → ((i : ℕ) → i < parts_of g d → halo ≤ part_size g d i) → halo ≤ d.extent
+halo_small g d halo ok some h =
+    let first = h 0 some in
+    let ends = part-ends g d 0 ok some in
+    let sum : offset_at g d 0 + part_size g d 0 ≡ offset_at g d (0 + 1) = ends.0 in
+    let within : offset_at g d (0 + 1) ≤ d.extent = ends.1 in
+    omega arith
+
+pub some_parts : (g : List ℕ) (d : Dimension) → IsGrid g → AreAxesOf (length g) d.axes → 0 < parts_of g d
+some_parts g d ok m = part_of-some g d 0 (part_of-below g d 0 (cell_count-some g ok.positive) m)
+  where
+    part_of-some : (g : List ℕ) (d : Dimension) (device : ℕ) → part_of g d device < parts_of g d → 0 < parts_of g d
+    part_of-some g d device h = omega arith
+
+pub made_haloed : (d : Dimension) (hs : List ℤ) (axes : List ℕ) (mark : Mark) (low high : ℕ) → axes ≡ d.axes → mark ≡ d.mark → low ≡ natural (get_or hs 0 (pos 0)) → high ≡ natural (get_or hs 1 (pos 0))
+    → record { extent = d.extent; axes = axes; mark = mark; low = low; high = high } ≡ haloed d hs
+made_haloed d hs axes mark low high ea em el eh = λ j. record { extent = d.extent; axes = ea j; mark = em j; low = el j; high = eh j }
+
+pub halo_count-split : (d : Dimension) → is_split d ≡ true → 2 ≡ halo_count d
+unfolding halo_count
+halo_count-split d h = sym (ap (λ (b : Bool). if b then 2 else 0) h)
+
+pub halo_count-unsplit : (d : Dimension) → is_split d ≡ false → 0 ≡ halo_count d
+unfolding halo_count
+halo_count-unsplit d h = sym (ap (λ (b : Bool). if b then 2 else 0) h)
+
+pub record IsHaloing (g : List ℕ) (ds : List Dimension) (halos : List ℤ) (i : ℕ) (out : List Dimension) (rest : List ℤ) : Type 0 where
+  pub done : out ++ with_halos (drop i ds) rest ≡ with_halos ds halos
+  pub forth : AllByRecursion (HalosFit g) (with_halos (drop i ds) rest) → AllByRecursion (HalosFit g) (with_halos ds halos)
+  pub back : AllByRecursion (HalosFit g) (with_halos ds halos) → AllByRecursion (HalosFit g) (with_halos (drop i ds) rest)
+  pub naturals : All IsNatural rest
+
+pub haloing_start : (g : List ℕ) (ds : List Dimension) (halos : List ℤ) → All IsNatural halos → IsHaloing g ds halos 0 [] halos
+haloing_start g ds halos h = record { done = refl; forth = λ h. h; back = λ h. h; naturals = h }
+
+pub haloing_more : (g : List ℕ) (ds : List Dimension) (halos : List ℤ) (i : ℕ) (out : List Dimension) (rest mine others : List ℤ) (d e : Dimension) → IsHaloing g ds halos i out rest → i < length ds
+    → d ≡ get_or ds i d → mine ≡ take (halo_count d) rest → others ≡ drop (halo_count d) rest → HalosFit g (haloed d mine) → e ≡ haloed d mine
+    → IsHaloing g ds halos (i + 1) (out ++ e ∷ []) others
+haloing_more g ds halos i out rest mine others d e h l read em eo has ee =
+    let next : drop i ds ≡ d ∷ drop (i + 1) ds = at_drop_more (λ xs. xs) ds i d l ∙ ap (λ z. z ∷ drop (i + 1) ds) (sym read) in
+    let head : e ≡ haloed d (take (halo_count d) rest) = ee ∙ ap (haloed d) em in
+    record {
+      done =
+          append_assoc out (e ∷ []) (with_halos (drop (i + 1) ds) others)
+          ∙ ap (λ z. out ++ z) (ap₂ (λ x ys. x ∷ with_halos (drop (i + 1) ds) ys) head eo ∙ sym (ap (λ xs. with_halos xs rest) next))
+          ∙ h.done;
+      forth = λ k. h.forth (subst (λ xs. AllByRecursion (HalosFit g) (with_halos xs rest)) (sym next)
+          (subst (λ hs. HalosFit g (haloed d hs)) em has, subst (λ hs. AllByRecursion (HalosFit g) (with_halos (drop (i + 1) ds) hs)) eo k));
+      back = λ k. subst (λ hs. AllByRecursion (HalosFit g) (with_halos (drop (i + 1) ds) hs)) (sym eo) (subst (λ xs. AllByRecursion (HalosFit g) (with_halos xs rest)) next (h.back k)).1;
+      naturals = subst (All IsNatural) (sym eo) (All-drop IsNatural (halo_count d) rest h.naturals);
+    }
+
+pub haloing_broken : (g : List ℕ) (ds : List Dimension) (halos : List ℤ) (i : ℕ) (out : List Dimension) (rest mine : List ℤ) (d : Dimension) → IsHaloing g ds halos i out rest → i < length ds
+    → d ≡ get_or ds i d → mine ≡ take (halo_count d) rest → ¬ HalosFit g (haloed d mine) → ¬ AllByRecursion (HalosFit g) (with_halos ds halos)
+haloing_broken g ds halos i out rest mine d h l read em broken = λ all.
+    let next : drop i ds ≡ d ∷ drop (i + 1) ds = at_drop_more (λ xs. xs) ds i d l ∙ ap (λ z. z ∷ drop (i + 1) ds) (sym read) in
+    broken (subst (λ hs. HalosFit g (haloed d hs)) (sym em) (subst (λ xs. AllByRecursion (HalosFit g) (with_halos xs rest)) next (h.back all)).0)
+
+pub record AreHaloed (g : List ℕ) (ds : List Dimension) (halos : List ℤ) (out : List Dimension) : Type 0 where
+  pub value : out ≡ with_halos ds halos
+  pub fits : AllByRecursion (HalosFit g) (with_halos ds halos)
+
+pub haloing_end : (g : List ℕ) (ds : List Dimension) (halos : List ℤ) (i : ℕ) (out : List Dimension) (rest : List ℤ) → IsHaloing g ds halos i out rest → length ds ≤ i → AreHaloed g ds halos out
+haloing_end g ds halos i out rest h le =
+    let none : drop i ds ≡ [] = at_drop_all (λ xs. xs) ds i le in
+    record {
+      value = sym (append-nil out) ∙ ap (λ z. out ++ z) (sym (ap (λ xs. with_halos xs rest) none)) ∙ h.done;
+      fits = h.forth (subst (λ xs. AllByRecursion (HalosFit g) (with_halos xs rest)) (sym none) tt);
+    }

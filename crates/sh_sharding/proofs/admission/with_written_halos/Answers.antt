@@ -1,0 +1,41 @@
+use Rattle.std.proofs.Common.{◌∙◌, sym}
+use Rattle.sh_sharding.proofs.AdmissionLaws.{empty_list, some_list}
+use Rattle.sh_sharding.proofs.AdmissionSteps.{kept_none, halos_stay, count_read, least_A7, counted_A7, least_A8, marked_asked, small_asked, kept_halos, misfit_read}
+use Rattle.sh_sharding.proofs.admission.with_written_halos.Goals as goal
+
+pub returns-then-is_empty-clause-kept : goal.returns-then-is_empty-clause-kept
+returns-then-is_empty-clause-kept c =
+    let none = sym c.as_slice-halos.ensures ∙ empty_list c.as_slice-halos.result.now c.is_empty.result c.if-is_empty.true c.is_empty.ensures in
+    (kept_none c.args.g.now c.args.raw.now c.args.s.now none, c.requires.marked ∙ halos_stay c.args.g.now c.args.raw.now c.args.s.now none)
+
+pub haloed_dimensions-requires-clause-marked : goal.haloed_dimensions-requires-clause-marked
+haloed_dimensions-requires-clause-marked c =
+    marked_asked c.args.g.now c.args.raw.now c.args.s.now c.as_slice-2.result.now c.requires.grid c.requires.lists c.requires.divisions (c.as_slice-2.ensures.value ∙ c.requires.marked)
+
+pub haloed_dimensions-requires-clause-small : goal.haloed_dimensions-requires-clause-small
+haloed_dimensions-requires-clause-small c =
+    small_asked c.args.g.now c.args.raw.now c.args.s.now c.as_slice-2.result.now c.requires.small (c.as_slice-2.ensures.value ∙ c.requires.marked)
+
+pub returns-then-not-are_halos-clause-refused : goal.returns-then-not-are_halos-clause-refused
+returns-then-not-are_halos-clause-refused c =
+    let given = some_list c.as_slice-halos.result.now c.is_empty.result c.if-is_empty.false c.is_empty.ensures in
+    let none = c.is_empty-2.ensures.0 c.if-not-is_empty.false in
+    let count = count_read c.args.g.now c.args.raw.now c.args.s.now c.as_slice.result.now c.split_count-split.result (c.as_slice.ensures.value ∙ c.requires.marked) c.split_count-split.ensures in
+    least_A7 c.args.g.now c.args.raw.now c.args.s.now c.as_slice-halos.result.now c.split_count-split.result c.are_halos.result c.requires.lists c.requires.divisions c.as_slice-halos.ensures
+    (λ e. given (c.as_slice-halos.ensures ∙ e)) none count c.if-not-are_halos.true c.are_halos.ensures.1
+
+pub returns-in-Some-clause-kept : goal.returns-in-Some-clause-kept
+returns-in-Some-clause-kept c =
+    let none = c.is_empty-2.ensures.0 c.if-not-is_empty.false in
+    let count = count_read c.args.g.now c.args.raw.now c.args.s.now c.as_slice.result.now c.split_count-split.result (c.as_slice.ensures.value ∙ c.requires.marked) c.split_count-split.ensures in
+    let counted = counted_A7 c.args.g.now c.args.raw.now c.args.s.now c.as_slice-halos.result.now c.split_count-split.result c.as_slice-halos.ensures count (c.are_halos.ensures.0 c.if-not-are_halos.false) in
+    let found = rw c.in-Some.is at c.in_ok-found.ensures in
+    kept_halos c.args.g.now c.args.raw.now c.args.s.now c.as_slice-2.result.now c.as_slice-halos.result.now c.in-Some.found.items none counted (c.as_slice-2.ensures.value ∙ c.requires.marked) c.as_slice-halos.ensures found.0 found.1
+
+pub returns-clause-refused : goal.returns-clause-refused
+returns-clause-refused c =
+    let none = c.is_empty-2.ensures.0 c.if-not-is_empty.false in
+    let count = count_read c.args.g.now c.args.raw.now c.args.s.now c.as_slice.result.now c.split_count-split.result (c.as_slice.ensures.value ∙ c.requires.marked) c.split_count-split.ensures in
+    let counted = counted_A7 c.args.g.now c.args.raw.now c.args.s.now c.as_slice-halos.result.now c.split_count-split.result c.as_slice-halos.ensures count (c.are_halos.ensures.0 c.if-not-are_halos.false) in
+    least_A8 c.args.g.now c.args.raw.now c.args.s.now c.requires.lists c.requires.divisions none counted
+    (misfit_read c.args.g.now c.args.raw.now c.args.s.now c.as_slice-2.result.now c.as_slice-halos.result.now (c.as_slice-2.ensures.value ∙ c.requires.marked) c.as_slice-halos.ensures (rw c.in-None.is at c.in_ok-found.ensures))
