@@ -9,3 +9,4 @@ pub mod LargestLaws
 pub mod AdmissionSteps
 pub mod AdmitLaws
 pub mod LocalTypeLaws
+pub mod WindowCutLaws

@@ -5,9 +5,8 @@ use Rattle.std.specs.List.{AllByRecursion, list_all, range_with_len}
 use Rattle.std.proofs.lemmas.Bool.Decides.{nat_tests}
 use Rattle.std.proofs.lemmas.List.FromFn.{get_or-map-range_with_len, length-map-range_with_len}
 use Rattle.std.proofs.lemmas.List.Folds.{list_all_at}
-use Rattle.sh_base.specs.Shape.{cell_count}
 use Rattle.sh_base.proofs.IndexLaws.{cell_count-some}
-use Rattle.sh_grid.specs.Grid.{IsGrid, AreAxesOf, place_in, group_size_of, member_of}
+use Rattle.sh_grid.specs.Grid.{IsGrid, AreAxesOf, group_size_of, member_of}
 use Rattle.sh_grid.proofs.GroupLaws.{member_of-below, place_in-member_of}
 use Rattle.sh_ir.specs.declared.types.Dim.TheVariants.{Known, Differs}
 use Rattle.sh_sharding.specs.declared.shardings.Dimension.{Dimension}

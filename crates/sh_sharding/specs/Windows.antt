@@ -1,13 +1,37 @@
--- How a cut is made, one dimension after the other: each is first sliced to what lies in the whole, and
--- then padded with undefined cells.
-use Rattle.std.specs.Prelude.{ℕ, zero, suc, ◌+◌, ◌-◌, List, [], ◌∷◌, min, set, get_or, replicate, Bool, true, ◌&&◌, nat_le, nat_lt, if◌then◌else◌}
+-- A cut is, along each dimension by itself, a window of the whole. How it is made: each dimension is first
+-- sliced to what lies in the whole, and then padded with undefined cells.
+use Rattle.std.specs.Prelude.{◌≡◌, ℕ, zero, suc, ◌+◌, ◌-◌, List, [], ◌∷◌, min, set, get_or, replicate, Bool, true, ◌&&◌, nat_le, nat_lt, if◌then◌else◌}
 use Rattle.sh_base.specs.declared.numbers.Cell.{Cell}
 use Rattle.sh_base.specs.declared.numbers.Cell.TheVariants.{Undef}
 use Rattle.sh_base.specs.declared.numbers.Width.{Width}
 use Rattle.sh_base.specs.Shape.{cell_count}
-use Rattle.sh_tensor.specs.Tensor.{TensorValue, at, build}
+use Rattle.sh_tensor.specs.Tensor.{TensorValue, IsTensor, at, build}
 use Rattle.sh_sharding.specs.declared.shardings.Dimension.{Dimension}
-use Rattle.sh_sharding.specs.Sharding.{start_in, size_in}
+use Rattle.sh_sharding.specs.Sharding.{ShardingValue, whole_of, start_in, size_in, local_extent}
+use Rattle.sh_sharding.specs.Cut.{cut_of}
+
+-- ---- windows
+
+unfoldable pub window_cell : List ℕ → ℕ → Dimension → TensorValue → ℕ → List ℕ → Cell
+window_cell g device d t axis i =
+    if nat_le d.low (start_in g device d + get_or i axis 0) && nat_lt (start_in g device d + get_or i axis 0 - d.low) d.extent
+    then at t (set i axis (start_in g device d + get_or i axis 0 - d.low))
+    else Undef
+
+-- A device's window of a tensor along one dimension: its part with the halos, undefined where a halo
+-- leaves the tensor.
+unfoldable pub window_of : List ℕ → ℕ → Dimension → TensorValue → ℕ → TensorValue
+window_of g device d t axis = build (set t.shape axis (local_extent g device d)) t.width (window_cell g device d t axis)
+
+-- the windows along the dimensions from this axis on, one after the other
+abbrev pub windows_of : List ℕ → ℕ → List Dimension → ℕ → TensorValue → TensorValue
+windows_of g device [] axis t = t
+windows_of g device (d ∷ ds) axis t = windows_of g device ds (axis + 1) (window_of g device d t axis)
+
+-- A cut is the windows along all dimensions.
+pub record CutsByWindows (s : ShardingValue) : Type 0 where
+  pub windows : (t : TensorValue) (device : ℕ) → IsTensor t → t.shape ≡ whole_of s
+      → cut_of s t device ≡ windows_of s.grid.extents device s.dimensions 0 t
 
 -- ---- one dimension
 

@@ -4,6 +4,7 @@ ghost use Rattle.sh_base.specs.Shape.{IsIndexOf, cell_count};
 ghost use Rattle.sh_sharding.specs.LocalTypes.{IsLocalDim, local_dim};
 ghost use Rattle.sh_sharding.specs.Cut.{CutsDetermine, CutsElementwise, HasOneOwner, HoldsOwned, SizesSum};
 ghost use Rattle.sh_sharding.specs.Sharding.{HasNoHalos, whole_of};
+ghost use Rattle.sh_sharding.specs.Windows.{CutsByWindows};
 
 use crate::{Sharding, whole};
 
@@ -19,12 +20,14 @@ pub fn owner_laws(s: &Sharding)
 
 /// The laws of cuts: a cut holds the tensor's cells at the indices that its device owns, the cuts
 /// determine the tensor, and without halos they commute with element operations. An extent of the local
-/// type is that of each device's local tensor, or `?` where two devices differ in it.
+/// type is that of each device's local tensor, or `?` where two devices differ in it. A cut is the windows
+/// of the tensor along each dimension by itself, one after the other.
 pub fn cut_laws(s: &Sharding)
     ensures holds { HoldsOwned s.now }
     ensures determine { CutsDetermine s.now }
     ensures elementwise { HasNoHalos s.now.dimensions → CutsElementwise s.now }
     ensures types { AllByRecursion (λ d. IsLocalDim s.now.grid.extents d (local_dim s.now.grid.extents d)) s.now.dimensions }
+    ensures windows { CutsByWindows s.now }
 {
     let _whole = whole(s);
 }
