@@ -10,3 +10,7 @@ pub mod AdmissionSteps
 pub mod AdmitLaws
 pub mod LocalTypeLaws
 pub mod WindowCutLaws
+pub mod NormalLaws
+pub mod SpellingLaws
+pub mod PlaceLaws
+pub mod TogetherLaws

@@ -3,3 +3,7 @@ pub mod Cut
 pub mod Admission
 pub mod Windows
 pub mod LocalTypes
+pub mod Normal
+pub mod Spelling
+pub mod Together
+pub mod Places

@@ -13,7 +13,7 @@ use sh_grid::{Grid, group_size};
 use std::alloc::Global;
 
 /// Whether a dimension is split.
-fn is_split_dimension(d: &Dimension) -> bool
+pub(crate) fn is_split_dimension(d: &Dimension) -> bool
     ensures { result ≡ is_split d.now }
 {
     !d.axes.extents().is_empty()
