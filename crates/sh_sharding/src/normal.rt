@@ -1,26 +1,10 @@
-ghost use Rattle.std.specs.Prelude.{◌≡◌, ◌↔◌, All, IsTrue, map};
-ghost use Rattle.sh_sharding.specs.Sharding.{IsMarked};
+ghost use Rattle.std.specs.Prelude.{◌≡◌, ◌↔◌, IsTrue, map};
 ghost use Rattle.sh_sharding.specs.Normal.{IsSame, division_of, up_to_last_split};
 
 use crate::divisions::is_split_dimension;
+use crate::views::{dimensions, grid};
 use crate::{Dimension, Mark, Sharding};
 use sh_base::Same;
-use sh_grid::Grid;
-
-/// The grid on which a sharding divides.
-pub(crate) fn grid(s: &Sharding) -> &Grid
-    ensures { result.now ≡ s.now.grid }
-{
-    &s.grid
-}
-
-/// How each dimension is divided.
-pub(crate) fn dimensions(s: &Sharding) -> &[Dimension]
-    ensures value { result.now ≡ s.now.dimensions }
-    ensures marked { All (IsMarked s.now.grid.extents) result.now }
-{
-    s.dimensions.as_slice()
-}
 
 /// The dimensions up to the last one that is split.
 pub(crate) fn up_to_last_split(dimensions: &[Dimension]) -> &[Dimension]

@@ -5,8 +5,9 @@ ghost use Rattle.sh_sharding.specs.Sharding.{IsMarked, whole_of};
 ghost use Rattle.sh_sharding.specs.Spelling.{all_offsets_of, halo_sizes, halos_of, has_halo, is_uneven, part_offsets, raw_of, written_dimensions};
 
 use crate::divisions::is_split_dimension;
-use crate::normal::{dimensions, grid, up_to_last_split};
+use crate::normal::up_to_last_split;
 use crate::parts::offset;
+use crate::views::{dimensions, grid};
 use crate::{Dimension, Mark, Sharding, whole};
 use sh_base::{AxisLists, Duplicate, Items, Mem, Numbers};
 use sh_grid::{Grid, group_size, name};

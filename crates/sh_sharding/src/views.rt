@@ -1,9 +1,10 @@
-ghost use Rattle.std.specs.Prelude.{◌≡◌, ◌<◌, ◌≤◌, length};
+ghost use Rattle.std.specs.Prelude.{◌≡◌, ◌<◌, ◌≤◌, All, length};
 ghost use Rattle.sh_grid.specs.Grid.{AreAxesOf, IsGrid};
-ghost use Rattle.sh_sharding.specs.Sharding.{IsDimension, IsSharding, dimension_of, whole_of};
+ghost use Rattle.sh_sharding.specs.Sharding.{IsDimension, IsMarked, IsSharding, dimension_of, whole_of};
 
 use crate::{Dimension, Sharding};
 use sh_base::Shape;
+use sh_grid::Grid;
 
 /// The shape of the tensor that is divided.
 pub fn whole(s: &Sharding) -> &Shape
@@ -11,6 +12,21 @@ pub fn whole(s: &Sharding) -> &Shape
     ensures admitted { IsSharding s.now }
 {
     &s.whole
+}
+
+/// The grid on which a sharding divides.
+pub(crate) fn grid(s: &Sharding) -> &Grid
+    ensures { result.now ≡ s.now.grid }
+{
+    &s.grid
+}
+
+/// How each dimension is divided.
+pub(crate) fn dimensions(s: &Sharding) -> &[Dimension]
+    ensures value { result.now ≡ s.now.dimensions }
+    ensures marked { All (IsMarked s.now.grid.extents) result.now }
+{
+    s.dimensions.as_slice()
 }
 
 /// How many dimensions the tensor has.

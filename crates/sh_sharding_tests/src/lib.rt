@@ -1,0 +1,15 @@
+//! Shardings and tensors from lines of text, and the tests of `sh_sharding` on them: each call that may
+//! want memory, with its whole answer. Other crates' tests take their examples from here.
+#![tactic(auto)]
+
+#[cfg(test)]
+mod admissions;
+#[cfg(test)]
+mod cuts;
+mod examples;
+mod tensors;
+mod unread;
+
+pub use examples::{Example, Sharded, admit_example, read_example};
+pub use tensors::{all_cuts, counting, parts_with};
+pub use unread::Unread;
