@@ -1,4 +1,4 @@
-ghost use Rattle.std.specs.Prelude.{◌≡◌, ◌+◌, ◌<◌, ◌≤◌, IfOk, length, slice_index};
+ghost use Rattle.std.specs.Prelude.{◌≡◌, ◌+◌, ◌<◌, ◌≤◌, IfOk, length, slice_index, unwrap_or};
 ghost use Rattle.sh_base.specs.Shape.{cell_count};
 ghost use Rattle.sh_grid.specs.Grid.{AreAxesOf, IsGrid};
 ghost use Rattle.sh_tensor.specs.Tensor.{IsTensor, slice_of};
@@ -52,16 +52,44 @@ fn window_of(g: &Grid, d: &Dimension, device: u64) -> Window
     }
 }
 
-/// The part of a tensor along an axis; the tensor itself where that is all of it.
-fn sliced(alloc: Global, t: Tensor, axis: u64, start: u64, size: u64) -> Result<Tensor, Mem>
-    requires axis { axis < length t.shape }
-    requires within { start + size ≤ slice_index t.shape axis }
-    ensures { IfOk result (λ part. part ≡ slice_of t axis start size) }
+/// The part of a tensor along an axis, or `None` where that is all of it.
+fn sliced(
+    alloc: Global,
+    t: &Tensor,
+    axis: u64,
+    start: u64,
+    size: u64,
+) -> Result<Option<Tensor>, Mem>
+    requires axis { axis < length t.now.shape }
+    requires within { start + size ≤ slice_index t.now.shape axis }
+    ensures { IfOk result (λ part. unwrap_or part t.now ≡ slice_of t.now axis start size) }
 {
     if size == t.shape().extents()[axis as usize] {
-        return Ok(t);
+        return Ok(None);
     }
-    slice(alloc, &t, axis, start, size)
+    Ok(Some(slice(alloc, t, axis, start, size)?))
+}
+
+/// The part along one axis more. `None` stands for all of the tensor, which is so copied once at most.
+fn sliced_further(
+    alloc: Global,
+    t: &Tensor,
+    part: Option<Tensor>,
+    axis: u64,
+    start: u64,
+    size: u64,
+) -> Result<Option<Tensor>, Mem>
+    requires axis { axis < length (unwrap_or part t.now).shape }
+    requires within { start + size ≤ slice_index (unwrap_or part t.now).shape axis }
+    ensures { IfOk result (λ next. unwrap_or next t.now ≡ slice_of (unwrap_or part t.now) axis start size) }
+{
+    let Some(part) = part else {
+        return sliced(alloc, t, axis, start, size);
+    };
+    match sliced(alloc, &part, axis, start, size)? {
+        Some(next) => Ok(Some(next)),
+        None => Ok(Some(part)),
+    }
 }
 
 /// What lies in the whole of the cut for a device.
@@ -73,12 +101,15 @@ fn clipped(alloc: Global, t: &Tensor, s: &Sharding, g: &Grid, device: u64) -> Re
     ensures ok { IfOk result (λ part. part ≡ sliced_by g.now.extents device s.now.dimensions t.now (length s.now.dimensions)) }
 {
     let rank = t.shape().extents().len() as u64;
-    let mut part = copy(alloc, t)?;
+    let mut part = None;
     for dim in 0..rank {
         let window = window_of(g, dimension(s, dim), device);
-        part = sliced(alloc, part, dim, window.from, window.taken)?;
+        part = sliced_further(alloc, t, part, dim, window.from, window.taken)?;
     }
-    Ok(part)
+    match part {
+        Some(part) => Ok(part),
+        None => copy(alloc, t),
+    }
 }
 
 /// The local tensor of a device, halos included: a copy of its part, and undefined cells where a halo
