@@ -1,5 +1,5 @@
 -- From the rules of admission to what holds of an admitted sharding.
-use Rattle.std.proofs.Common.{◌≡◌, ◌≢◌, ℕ, zero, suc, ◌+◌, ◌-◌, ◌*◌, ◌/◌, ◌<◌, ◌≤◌, ◌⊎◌, inl, inr, List, [], ◌∷◌, length, get_or, map, Bool, true, false, cond, refl, ap, ap₂, sym, ◌∙◌, arith, subst, ℤ, pos}
+use Rattle.std.proofs.Common.{◌≡◌, ◌≢◌, ℕ, zero, suc, ◌+◌, ◌-◌, ◌*◌, ◌/◌, ◌<◌, ◌≤◌, inl, inr, List, [], ◌∷◌, length, get_or, map, Bool, true, false, cond, refl, ap, ap₂, sym, ◌∙◌, arith, subst, ℤ, pos}
 use Rattle.std.specs.Prelude.{◌==◌, count_by, ◌≤ℤ◌, nat_eq, ◌&&◌, if◌then◌else◌}
 use Rattle.std.specs.List.{All}
 use Rattle.std.specs.Cmp.Lexicographic.{pointwise}
@@ -15,6 +15,8 @@ use Rattle.sh_sharding.specs.declared.shardings.Mark.{Mark}
 use Rattle.sh_sharding.specs.declared.shardings.Mark.TheVariants.{Even, Offsets}
 use Rattle.sh_sharding.specs.Sharding.{offset_of, offsets_of}
 use Rattle.sh_sharding.specs.Admission.{natural, IsBelow, AreOffsets, mark_of}
+use Rattle.std.proofs.lemmas.Bool.{false_from_ne_true}
+use Rattle.sh_sharding.proofs.Cases.{and_left, and_right, lt_or_le, same_or_not}
 
 -- ---- axes listed once
 
@@ -25,9 +27,6 @@ times a (x ∷ xs) = cond (x == a) (1 + times a xs) (times a xs)
 times_is : (a : ℕ) (xs : List ℕ) → times a xs ≡ count_by (λ b. b == a) xs
 unfolding times
 times_is a xs = is_count_by (times a) (λ b. b == a) refl (λ x ys. refl) xs
-
-lt_or_le : (x b : ℕ) → (x < b) ⊎ (b ≤ x)
-lt_or_le x b = grind arith
 
 times_none : (a n : ℕ) (xs : List ℕ) → All (λ x. x < n) xs → n ≤ a → times a xs ≡ 0
 unfolding times
@@ -73,10 +72,6 @@ pointwise_refl (x ∷ xs) =
     let first : nat_eq x x ≡ true = grind (arith, nat_tests) in
     ap₂ (λ (a b : Bool). a && b) first (pointwise_refl xs)
 
-and_parts : (a b : Bool) → (a && b) ≡ true → (a ≡ true) × (b ≡ true)
-and_parts true b h = (refl, h)
-and_parts false b h = absurd (cc)
-
 eq_from : (a b : ℕ) → nat_eq a b ≡ true → a ≡ b
 eq_from a b h = grind (arith, nat_tests)
 
@@ -85,12 +80,7 @@ pointwise_same [] [] h = refl
 pointwise_same [] (y ∷ ys) h = absurd (cc)
 pointwise_same (x ∷ xs) [] h = absurd (cc)
 pointwise_same (x ∷ xs) (y ∷ ys) h =
-    let parts = and_parts (nat_eq x y) (pointwise nat_eq xs ys) h in
-    ap₂ ◌∷◌ (eq_from x y parts.0) (pointwise_same xs ys parts.1)
-
-not_true : (b : Bool) → (b ≡ true → ⊥) → b ≡ false
-not_true true h = absurd (h refl)
-not_true false h = refl
+    ap₂ ◌∷◌ (eq_from x y (and_left (nat_eq x y) (pointwise nat_eq xs ys) h)) (pointwise_same xs ys (and_right (nat_eq x y) (pointwise nat_eq xs ys) h))
 
 pub mark_of-even : (n p : ℕ) (os : List ℕ) → os ≡ offsets_of n p Even → mark_of n p os ≡ Even
 unfolding mark_of
@@ -107,7 +97,7 @@ pub mark_of-written : (n p : ℕ) (os : List ℕ) → os ≢ [] → os ≢ offse
 unfolding mark_of
 mark_of-written n p [] some h = absurd (some refl)
 mark_of-written n p (o ∷ os) some h =
-    let other : pointwise nat_eq (o ∷ os) (offsets_of n p Even) ≡ false = not_true (pointwise nat_eq (o ∷ os) (offsets_of n p Even)) (λ e. h (pointwise_same (o ∷ os) (offsets_of n p Even) e)) in
+    let other : pointwise nat_eq (o ∷ os) (offsets_of n p Even) ≡ false = false_from_ne_true (pointwise nat_eq (o ∷ os) (offsets_of n p Even)) (λ e. h (pointwise_same (o ∷ os) (offsets_of n p Even) e)) in
     ap (λ (b : Bool). if b then Even else Offsets (o ∷ os)) other
 
 -- ---- written numbers
@@ -166,7 +156,7 @@ offsets_fit n p top os h l k d lt =
 is_none_of : (a : ℕ) (xs : List ℕ) → times a xs ≡ 0 → IsNoneOf a xs
 unfolding times
 is_none_of a [] h = tt
-is_none_of a (x ∷ xs) h = elim (lt_or_same a x) [
+is_none_of a (x ∷ xs) h = elim (same_or_not a x) [
   | inl same ↦
       let test : (x == a) ≡ true = grind (arith, nat_tests) in
       let one : cond (x == a) (1 + times a xs) (times a xs) ≡ 1 + times a xs = ap (λ (b : Bool). cond b (1 + times a xs) (times a xs)) test in
@@ -176,9 +166,6 @@ is_none_of a (x ∷ xs) h = elim (lt_or_same a x) [
       let none : cond (x == a) (1 + times a xs) (times a xs) ≡ times a xs = ap (λ (b : Bool). cond b (1 + times a xs) (times a xs)) test in
       (other, is_none_of a xs (sym none ∙ h))
 ]
-  where
-    lt_or_same : (a x : ℕ) → (a ≡ x) ⊎ (a ≢ x)
-    lt_or_same a x = grind arith
 
 axes_once : (rank : ℕ) (xs : List ℕ) → All (λ a. a < rank) xs → ((a : ℕ) → times a xs ≤ 1) → AreAxesOf rank xs
 unfolding times

@@ -1,5 +1,5 @@
 -- The answers of admission, rule by rule.
-use Rattle.std.proofs.Common.{◌≡◌, ◌≢◌, ℕ, ◌+◌, ◌*◌, ◌%◌, ◌<◌, ◌≤◌, ◌⊎◌, inl, inr, List, [], ◌∷◌, length, get_or, map, take, drop, Bool, true, false, cond, refl, ap, ap₂, sym, ◌∙◌, arith, subst, ℤ, pos}
+use Rattle.std.proofs.Common.{◌≡◌, ◌≢◌, ℕ, ◌+◌, ◌*◌, ◌%◌, ◌<◌, ◌≤◌, inl, inr, List, [], ◌∷◌, length, get_or, map, take, drop, Bool, true, false, cond, refl, ap, ap₂, sym, ◌∙◌, arith, subst, ℤ, pos}
 use Rattle.std.specs.Prelude.{◌==◌, count_by}
 use Rattle.std.specs.List.{All, AllByRecursion}
 use Rattle.std.proofs.lemmas.List.Elements.{All-from_recursion, recursion_from_All}
@@ -12,6 +12,7 @@ use Rattle.sh_sharding.specs.Admission.{natural, IsBelow, listed_axes, listed, i
 use Rattle.sh_sharding.proofs.AdmittedLaws.{listed_below, has_axes, take-nil, drop-nil, marked_even, marked_written, extents-marked, extents-listed}
 use Rattle.sh_sharding.proofs.PartLaws.{extents_few}
 use Rattle.std.proofs.lemmas.List.Recursion.{is_count_by}
+use Rattle.sh_sharding.proofs.Cases.{none_or_some, not_both}
 
 pub listed_fit : (g : List ℕ) (lists : List (List ℤ)) (axes : List ℕ) → axes ≡ listed_axes lists → All (All (IsBelow (length g))) lists → All (λ a. a < length g) axes
 listed_fit g lists axes e h = subst (All (λ a. a < length g)) (sym e) (listed_below (length g) lists h)
@@ -30,9 +31,6 @@ least_A2 g raw s extents lists axes r eg el ea h failed passes = record {
   broken = λ kept. not_both r (passes (λ a. subst (λ z. count_by (λ b. b == a) z ≤ 1) (sym (ea ∙ ap listed_axes el)) (kept a))) failed;
   earlier = (kept_A1 g raw s extents lists eg el h, tt);
 }
-  where
-    not_both : (b : Bool) → b ≡ true → b ≡ false → ⊥
-    not_both b h k = cc
 
 pub least_A3 : (g : GridValue) (raw : RawSharding) (s : List ℕ) (extents : List ℕ) (lists : List (List ℤ)) (axes : List ℕ) → extents ≡ g.extents → lists ≡ raw.split → axes ≡ listed_axes lists
     → All (All (IsBelow (length extents))) lists → ((a : ℕ) → count_by (λ b. b == a) axes ≤ 1) → length s < length lists → IsLeastBroken A3 g raw s
@@ -80,16 +78,12 @@ count_split g (d ∷ ds) os = ap (λ z. is_split d ∷ z) (count_split g ds (dro
 pub all_marked : (g : GridValue) (raw : RawSharding) (s : List ℕ) → IsGrid g.extents → KeepsLists g raw s → KeepsDivisions g raw s → AllByRecursion (IsMarked g.extents) (marked g.extents (listed raw.split s) raw.offsets)
 all_marked g raw s ok lists divisions =
     let axes = has_axes g raw s ok.few lists in
-    elim (given_cases raw.offsets) [
+    elim (none_or_some raw.offsets) [
       | inl none ↦
           let even = recursion_from_All (λ d. d.extent % parts_of g.extents d ≡ 0) (listed raw.split s) (divisions.even none) in
           subst (λ os. AllByRecursion (IsMarked g.extents) (marked g.extents (listed raw.split s) os)) (sym none) (marked_even g.extents (listed raw.split s) ok axes.each even)
       | inr given ↦ marked_written g.extents (listed raw.split s) raw.offsets axes.each (divisions.offsets given)
     ]
-  where
-    given_cases : (os : List ℤ) → (os ≡ []) ⊎ (os ≢ [])
-    given_cases [] = inl refl
-    given_cases (o ∷ os) = inr (λ e. cc)
 
 fits_none : (g : List ℕ) (ds : List Dimension) → AllByRecursion (HalosFit g) (with_halos ds [])
 fits_none g [] = tt
@@ -134,9 +128,6 @@ least_A7 g raw s halos n r lists divisions eh some none en failed passes = recor
       not_both r (passes (long, subst (All IsNatural) (sym eh) both.1)) failed;
   earlier = (lists.axes, (lists.once, (lists.few, (divisions.even, (divisions.offsets, ((λ given. none), tt))))));
 }
-  where
-    not_both : (b : Bool) → b ≡ true → b ≡ false → ⊥
-    not_both b h k = cc
 
 pub counted_A7 : (g : GridValue) (raw : RawSharding) (s : List ℕ) (halos : List ℤ) (n : ℕ) → halos ≡ raw.halos → n ≡ count_by is_split (listed raw.split s) → (length halos ≡ 2 * n) × All IsNatural halos → Keeps A7 g raw s
 counted_A7 g raw s halos n eh en h = λ some. (sym (ap length eh) ∙ h.0 ∙ ap (λ z. 2 * z) en, subst (All IsNatural) eh h.1)

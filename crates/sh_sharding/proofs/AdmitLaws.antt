@@ -1,5 +1,5 @@
 -- What keeps all rules is admitted, and is a sharding.
-use Rattle.std.proofs.Common.{◌≡◌, ◌≢◌, ℕ, ◌<◌, ◌≤◌, ◌⊎◌, inl, inr, List, [], ◌∷◌, length, map, take, drop, Bool, true, false, refl, ap, sym, ◌∙◌, arith, subst, ℤ}
+use Rattle.std.proofs.Common.{◌≡◌, ◌≢◌, ℕ, ◌<◌, ◌≤◌, inl, inr, List, [], ◌∷◌, length, map, take, drop, Bool, true, false, ap, sym, ◌∙◌, arith, subst, ℤ}
 use Rattle.std.specs.List.{AllByRecursion, All}
 use Rattle.std.proofs.lemmas.List.{length-map}
 use Rattle.std.proofs.lemmas.List.Elements.{All-from_recursion}
@@ -16,6 +16,7 @@ use Rattle.sh_sharding.proofs.DivisionLaws.{halo_small, some_parts}
 use Rattle.sh_sharding.proofs.AdmittedLaws.{axes-with_halos, axes-marked, extents-with_halos, extents-marked, extents-listed, has_axes, marked_whole, haloed_all, halos_none, offsets_none}
 use Rattle.sh_sharding.proofs.AdmissionSteps.{all_marked}
 use Rattle.sh_sharding.proofs.LargestLaws.{local_cells-le, largest_device}
+use Rattle.sh_sharding.proofs.Cases.{none_or_some, not_both}
 
 -- ---- the dimensions with their halos
 
@@ -120,9 +121,6 @@ is_too_large g raw s ds r h e failed passes = record {
   broken = λ kept. not_both r (passes (rw e (largest_fits g raw s h kept.1))) failed;
   earlier = (h.lists.axes, (h.lists.once, (h.lists.few, (h.divisions.even, (h.divisions.offsets, (h.halos.alone, (h.halos.counted, tt)))))));
 }
-  where
-    not_both : (b : Bool) → b ≡ true → b ≡ false → ⊥
-    not_both b h k = cc
 
 -- the sharding of what is written
 pub is_sharding : (g : GridValue) (raw : RawSharding) (s : List ℕ) → IsGrid g.extents → length s ≤ 6 → counted_cells s ≤ 1048576 → IsAdmitted g raw s → IsSharding (sharding_of g raw s)
@@ -148,12 +146,8 @@ is_sharding g raw s ok short small h =
         let same : length (map (λ d. d.extent) (sharding_of g raw s).dimensions) ≡ length s = ap length (written_whole g raw s) in
         omega (arith, length-map (sharding_of g raw s).dimensions (λ d. d.extent))
 
-    empty_or_not : (zs : List ℤ) → (zs ≡ []) ⊎ (zs ≢ [])
-    empty_or_not [] = inl refl
-    empty_or_not (z ∷ zs) = inr (λ e. cc)
-
     one_mark : (g : GridValue) (raw : RawSharding) (s : List ℕ) → (raw.halos ≢ [] → raw.offsets ≡ []) → ¬ IsEven (sharding_of g raw s).dimensions → HasNoHalos (sharding_of g raw s).dimensions
-    one_mark g raw s alone some = elim (empty_or_not raw.halos) [
+    one_mark g raw s alone some = elim (none_or_some raw.halos) [
       | inl none ↦ subst (λ hs. HasNoHalos (with_halos (marked g.extents (listed raw.split s) raw.offsets) hs)) (sym none) (halos_none (marked g.extents (listed raw.split s) raw.offsets))
       | inr given ↦ absurd (some (subst (λ os. IsEven (with_halos (marked g.extents (listed raw.split s) os) raw.halos)) (sym (alone given)) (offsets_none g.extents (listed raw.split s) raw.halos)))
     ]

@@ -1,5 +1,5 @@
 -- What is written and keeps the rules is a sharding in normal form.
-use Rattle.std.proofs.Common.{◌≡◌, ◌≢◌, ℕ, zero, suc, ◌+◌, ◌*◌, ◌/◌, ◌%◌, ◌<◌, ◌≤◌, ◌⊎◌, inl, inr, List, [], ◌∷◌, ◌++◌, length, get_or, map, take, drop, Bool, true, false, refl, ap, ap₂, sym, ◌∙◌, arith, subst, ℤ, pos, negsuc}
+use Rattle.std.proofs.Common.{◌≡◌, ◌≢◌, ℕ, zero, suc, ◌+◌, ◌*◌, ◌/◌, ◌%◌, ◌<◌, ◌≤◌, ◌⊎◌, inl, inr, List, [], ◌∷◌, ◌++◌, length, get_or, map, take, drop, false, refl, ap, ap₂, sym, ◌∙◌, arith, subst, ℤ, pos, negsuc}
 use Rattle.std.specs.Prelude.{◌≤ℤ◌, ◌<ℤ◌}
 use Rattle.std.specs.List.{All, AllByRecursion}
 use Rattle.std.proofs.lemmas.Int.{ints}
@@ -19,6 +19,8 @@ use Rattle.std.proofs.lemmas.List.{length-append}
 use Rattle.sh_sharding.proofs.PartLaws.{part_of-below, axes_of-each}
 use Rattle.sh_sharding.proofs.AdmissionLaws.{get_or-offsets_of, mark_of-even, mark_of-none, mark_of-written, offsets_between, distinct_axes, few_axes}
 use Rattle.sh_sharding.proofs.DivisionLaws.{count_unsplit, halo_count-unsplit}
+use Rattle.std.proofs.lemmas.Bool.{cases_Bool}
+use Rattle.sh_sharding.proofs.Cases.{same_or_not}
 
 -- ---- axes and extents stay
 
@@ -119,16 +121,13 @@ list_cases : (xs ys : List ℕ) → (xs ≡ ys) ⊎ (xs ≢ ys)
 list_cases [] [] = inl refl
 list_cases [] (y ∷ ys) = inr (λ e. cc)
 list_cases (x ∷ xs) [] = inr (λ e. cc)
-list_cases (x ∷ xs) (y ∷ ys) = elim (nat_cases x y) [
+list_cases (x ∷ xs) (y ∷ ys) = elim (same_or_not x y) [
   | inl same ↦ elim (list_cases xs ys) [
     | inl rest ↦ inl (ap₂ ◌∷◌ same rest)
     | inr other ↦ inr (λ e. other (cc))
   ]
   | inr other ↦ inr (λ e. other (cc))
 ]
-  where
-    nat_cases : (x y : ℕ) → (x ≡ y) ⊎ (x ≢ y)
-    nat_cases x y = grind arith
 
 pub written_mark : (n p : ℕ) (os : List ℤ) → AreOffsets n p os → IsMarkOf n p (mark_of n p (map natural os))
 written_mark n p os h =
@@ -174,11 +173,7 @@ marked_even g (d ∷ ds) ok m e =
       subst (λ os. AllByRecursion (IsMarked g) (marked g ds os)) (sym rest) (marked_even g ds ok m.1 e.1),
     )
 
-bool_cases : (b : Bool) → (b ≡ true) ⊎ (b ≡ false)
-bool_cases true = inl refl
-bool_cases false = inr refl
-
-no_axes : (d : Dimension) → is_split d ≡ false → d.axes ≡ []
+pub no_axes : (d : Dimension) → is_split d ≡ false → d.axes ≡ []
 no_axes d h = axes_none d.axes h
   where
     axes_none : (axes : List ℕ) → is_split_by axes ≡ false → axes ≡ []
@@ -193,7 +188,7 @@ parts_of-unsplit g d e = ap (λ axes. cell_count (map (λ a. get_or g a 0) axes)
 pub marked_written : (g : List ℕ) (ds : List Dimension) (os : List ℤ) → AllByRecursion (λ d. AreAxesOf (length g) d.axes) ds → AreAllOffsets g ds os → AllByRecursion (IsMarked g) (marked g ds os)
 marked_written g [] os m h = tt
 marked_written g (d ∷ ds) os m h = (
-  elim (bool_cases (is_split d)) [
+  elim (cases_Bool (is_split d)) [
     | inl split ↦ marked_one g d (take (offset_count g d) os) m.0 (written_mark d.extent (parts_of g d) (take (offset_count g d) os) (h.0 split))
     | inr whole ↦
         let one = parts_of-unsplit g d (no_axes d whole) in

@@ -1,5 +1,5 @@
 -- What is known of a cut, cell by cell.
-use Rattle.std.proofs.Common.{◌≡◌, ℕ, ◌+◌, ◌-◌, ◌<◌, List, [], ◌∷◌, map, Bool, true, false, refl, ap, ap₂, sym, ◌∙◌, arith}
+use Rattle.std.proofs.Common.{◌≡◌, ℕ, ◌+◌, ◌-◌, ◌<◌, List, [], ◌∷◌, map, Bool, true, refl, ap, ap₂, sym, ◌∙◌, arith}
 use Rattle.std.specs.List.{AllByRecursion}
 use Rattle.std.specs.Prelude.{nat_le, nat_lt, ◌&&◌, if◌then◌else◌}
 use Rattle.std.proofs.lemmas.Bool.Decides.{nat_tests}
@@ -13,6 +13,7 @@ use Rattle.sh_sharding.specs.declared.shardings.Dimension.{Dimension}
 use Rattle.sh_sharding.specs.Sharding.{ShardingValue, start_in, size_in, local_extent, local_shape, whole_of, HasNoHalos, IsSharding}
 use Rattle.sh_sharding.specs.Cut.{whole_index, is_inside, cut_cell, cut_of, CutsElementwise}
 use Rattle.sh_sharding.proofs.PartLaws.{IsPlaced, placed}
+use Rattle.sh_sharding.proofs.Cases.{and_left, and_right, lt_from}
 
 -- ---- cells
 
@@ -34,14 +35,12 @@ pub whole_index-inside : (g : List ℕ) (device : ℕ) (ds : List Dimension) (j 
 whole_index-inside g device [] j h inside = tt
 whole_index-inside g device (d ∷ ds) [] h inside = absurd h
 whole_index-inside g device (d ∷ ds) (x ∷ j) h inside =
-    let parts = and_parts (nat_le d.low (start_in g device d + x) && nat_lt (start_in g device d + x - d.low) d.extent) (is_inside g device ds j) inside in
-    let first = and_parts (nat_le d.low (start_in g device d + x)) (nat_lt (start_in g device d + x - d.low) d.extent) parts.0 in
-    let test : nat_lt (start_in g device d + x - d.low) d.extent ≡ true = first.1 in
-    (grind (arith, nat_tests), whole_index-inside g device ds j h.1 parts.1)
-  where
-    and_parts : (a b : Bool) → (a && b) ≡ true → (a ≡ true) × (b ≡ true)
-    and_parts true b h = (refl, h)
-    and_parts false b h = absurd (cc)
+    let begins = nat_le d.low (start_in g device d + x) in
+    let ends = nat_lt (start_in g device d + x - d.low) d.extent in
+    let here = and_left (begins && ends) (is_inside g device ds j) inside in (
+      lt_from (start_in g device d + x - d.low) d.extent (and_right begins ends here),
+      whole_index-inside g device ds j h.1 (and_right (begins && ends) (is_inside g device ds j) inside),
+    )
 
 -- without halos each local index stands in the whole
 pub no_halos-inside : (g : List ℕ) (device : ℕ) (ds : List Dimension) (j : List ℕ) → AllByRecursion (IsPlaced g device) ds → HasNoHalos ds → IsIndexOf (map (local_extent g device) ds) j

@@ -12,6 +12,7 @@ use Rattle.sh_sharding.specs.declared.shardings.Dimension.{Dimension}
 use Rattle.sh_sharding.specs.Sharding.{parts_of, part_of, offset_at, part_size, largest_to, IsDivided}
 use Rattle.sh_sharding.specs.Admission.{natural, IsNatural, is_split, offset_count, halo_count, haloed, with_mark, marked, with_halos, mark_of, AreOffsets, HasOffsets, AreAllOffsets, HalosFit}
 use Rattle.sh_sharding.proofs.PartLaws.{part-ends, part_of-below}
+use Rattle.std.proofs.lemmas.Bool.{cases_Bool}
 
 -- ---- offsets
 
@@ -81,13 +82,9 @@ pub count_unsplit : (g : List ℕ) (d : Dimension) → is_split d ≡ false → 
 unfolding offset_count parts_of
 count_unsplit g d h = sym (ap (λ (b : Bool). if b then group_size_of g d.axes + 1 else 0) h)
 
-bool_cases : (b : Bool) → (b ≡ true) ⊎ (b ≡ false)
-bool_cases true = inl refl
-bool_cases false = inr refl
-
 pub asked_offsets : (g : List ℕ) (d : Dimension) (n : ℕ) (os : List ℤ) → n ≡ group_size_of g d.axes → (is_split d ≡ false → os ≡ []) → HasOffsets g d os → os ≢ [] → AreOffsets d.extent n os
 unfolding parts_of
-asked_offsets g d n os e none has some = elim (bool_cases (is_split d)) [
+asked_offsets g d n os e none has some = elim (cases_Bool (is_split d)) [
   | inl split ↦ subst (λ m. AreOffsets d.extent m os) (sym e) (has split)
   | inr whole ↦ absurd (some (none whole))
 ]

@@ -12,6 +12,7 @@ use Rattle.sh_sharding.specs.declared.shardings.Dimension.{Dimension}
 use Rattle.sh_sharding.specs.Sharding.{parts_of, part_of, part_size, size_in, local_extent, axes_of, counted_cells, largest_to, largest_local}
 use Rattle.sh_sharding.proofs.PartLaws.{part_of-below}
 use Rattle.sh_sharding.proofs.OwnerLaws.{on_axes-append, IsIndexOf-append, same_front, part_of-entries, on_axes-place_in}
+use Rattle.sh_sharding.proofs.Cases.{below_next}
 
 -- ---- the product, step by step
 
@@ -30,15 +31,12 @@ largest_step g ds i total next d l read e en =
 
 -- ---- the largest part is a part, and no part is larger
 
-lt_or_same : (i k : ℕ) → i < suc k → (i < k) ⊎ (i ≡ k)
-lt_or_same i k h = grind arith
-
 le_or_lt : (a b : ℕ) → (a ≤ b) ⊎ (b < a)
 le_or_lt a b = grind arith
 
 part_size-le : (g : List ℕ) (d : Dimension) (k i : ℕ) → i < k → part_size g d i ≤ largest_to g d k
 part_size-le g d zero i l = absurd (omega arith)
-part_size-le g d (suc k) i l = elim (lt_or_same i k l) [
+part_size-le g d (suc k) i l = elim (below_next i k l) [
   | inl less ↦ let rec = part_size-le g d k i less in omega arith
   | inr same ↦ let here : part_size g d k ≤ largest_to g d (suc k) = omega arith in subst (λ z. part_size g d z ≤ largest_to g d (suc k)) (sym same) here
 ]

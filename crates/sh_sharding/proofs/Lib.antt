@@ -1,3 +1,4 @@
+pub mod Cases
 pub mod PartLaws
 pub mod CutLaws
 pub mod WindowLaws

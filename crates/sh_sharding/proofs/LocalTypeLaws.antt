@@ -13,6 +13,7 @@ use Rattle.sh_sharding.specs.declared.shardings.Dimension.{Dimension}
 use Rattle.sh_sharding.specs.Sharding.{parts_of, part_of, part_size, size_in, local_extent}
 use Rattle.sh_sharding.specs.LocalTypes.{part_sizes, local_dim, HasTwoExtents, IsLocalDim}
 use Rattle.sh_sharding.proofs.PartLaws.{part_of-below}
+use Rattle.sh_sharding.proofs.Cases.{below_next, same_or_not}
 
 -- ---- the sizes of the parts
 
@@ -22,18 +23,12 @@ pub record IsOtherPart (g : List ℕ) (d : Dimension) (k : ℕ) : Type 0 where
   pub below : part < k
   pub other : part_size g d part ≢ part_size g d 0
 
-same_or_not : (a b : ℕ) → (a ≡ b) ⊎ (a ≢ b)
-same_or_not a b = grind arith
-
-lt_cases : (i k : ℕ) → i < suc k → (i < k) ⊎ (i ≡ k)
-lt_cases i k h = grind arith
-
 other_part : (g : List ℕ) (d : Dimension) (k : ℕ) → ((i : ℕ) → i < k → part_size g d i ≡ part_size g d 0) ⊎ IsOtherPart g d k
 other_part g d zero = inl (λ i l. absurd (omega arith))
 other_part g d (suc k) = elim (other_part g d k) [
   | inr found ↦ let below = found.below in inr (record { part = found.part; below = omega arith; other = found.other })
   | inl same ↦ elim (same_or_not (part_size g d k) (part_size g d 0)) [
-    | inl here ↦ inl (λ i l. elim (lt_cases i k l) [
+    | inl here ↦ inl (λ i l. elim (below_next i k l) [
       | inl less ↦ same i less
       | inr last ↦ subst (λ z. part_size g d z ≡ part_size g d 0) (sym last) here
     ])

@@ -1,5 +1,5 @@
 -- What the code of the normal form and of the spelling does, dimension by dimension.
-use Rattle.std.proofs.Common.{◌≡◌, ℕ, suc, ◌+◌, ◌<◌, ◌≤◌, List, [], ◌∷◌, ◌++◌, length, get_or, map, take, min, max, Bool, true, false, refl, ap, ap₂, sym, ◌∙◌, arith, subst, ℤ, pos, ◌⊎◌, inl, inr}
+use Rattle.std.proofs.Common.{◌≡◌, ℕ, suc, ◌+◌, ◌<◌, ◌≤◌, List, [], ◌∷◌, ◌++◌, length, get_or, map, take, min, max, Bool, true, false, refl, ap, ap₂, sym, ◌∙◌, arith, subst, ℤ, pos, inl, inr}
 use Rattle.std.specs.Prelude.{◌||◌, if◌then◌else◌}
 use Rattle.std.specs.List.{list_any, range_with_len, All, AllByRecursion}
 use Rattle.std.proofs.lemmas.List.{take_more, get_or-map, append_assoc}
@@ -14,6 +14,7 @@ use Rattle.sh_sharding.specs.Admission.{is_split}
 use Rattle.sh_sharding.specs.Normal.{division_of, up_to_last_split}
 use Rattle.sh_sharding.specs.Spelling.{written_dimensions, part_offsets}
 use Rattle.sh_sharding.proofs.PartLaws.{axes_of-each}
+use Rattle.std.proofs.lemmas.Bool.{cases_Bool}
 
 -- ---- tests
 
@@ -28,10 +29,6 @@ or_false false = refl
 pub or_parts : (a b : Bool) → (a || b) ≡ false → (a ≡ false) × (b ≡ false)
 or_parts true b h = absurd (cc)
 or_parts false b h = (refl, h)
-
-pub bool_cases : (b : Bool) → (b ≡ true) ⊎ (b ≡ false)
-bool_cases true = inl refl
-bool_cases false = inr refl
 
 -- ---- the last dimension that is split
 
@@ -84,7 +81,7 @@ none_split (d ∷ ds) h = ap (λ (b : Bool). if b then d ∷ up_to_last_split ds
 
 front : (ds : List Dimension) → take (length (up_to_last_split ds)) ds ≡ up_to_last_split ds
 front [] = refl
-front (d ∷ ds) = elim (bool_cases (list_any is_split (d ∷ ds))) [
+front (d ∷ ds) = elim (cases_Bool (list_any is_split (d ∷ ds))) [
   | inl some ↦
       let here = some_split d ds some in
       ap (λ xs. take (length xs) (d ∷ ds)) here ∙ ap (λ xs. d ∷ xs) (front ds) ∙ sym here
@@ -95,7 +92,7 @@ front (d ∷ ds) = elim (bool_cases (list_any is_split (d ∷ ds))) [
 
 pub length-up_to : (ds : List Dimension) → length (up_to_last_split ds) ≤ length ds
 length-up_to [] = omega arith
-length-up_to (d ∷ ds) = elim (bool_cases (list_any is_split (d ∷ ds))) [
+length-up_to (d ∷ ds) = elim (cases_Bool (list_any is_split (d ∷ ds))) [
   | inl some ↦
       let rec = length-up_to ds in
       let here = ap length (some_split d ds some) in
@@ -107,7 +104,7 @@ length-up_to (d ∷ ds) = elim (bool_cases (list_any is_split (d ∷ ds))) [
 
 pub written_front : (ds : List Dimension) (n : ℕ) → n ≡ min (max (length (up_to_last_split ds)) 1) (length ds) → take n ds ≡ written_dimensions ds
 written_front [] n e = let none : n ≡ 0 = omega arith in ap (λ m. take m []) none
-written_front (d ∷ ds) n e = elim (bool_cases (list_any is_split (d ∷ ds))) [
+written_front (d ∷ ds) n e = elim (cases_Bool (list_any is_split (d ∷ ds))) [
   | inl some ↦
       let here = ap length (some_split d ds some) in
       let few = length-up_to ds in

@@ -1,5 +1,5 @@
 -- Each index of the whole has exactly one owner in each group, and what the cuts hold for it.
-use Rattle.std.proofs.Common.{◌≡◌, ℕ, zero, suc, ◌+◌, ◌-◌, ◌<◌, ◌≤◌, ◌⊎◌, inl, inr, List, [], ◌∷◌, ◌++◌, length, get_or, map, sum, Bool, true, refl, ap, ap₂, sym, ◌∙◌, arith, subst}
+use Rattle.std.proofs.Common.{◌≡◌, ℕ, zero, suc, ◌+◌, ◌-◌, ◌<◌, ◌≤◌, inl, inr, List, [], ◌∷◌, ◌++◌, length, get_or, map, sum, Bool, true, refl, ap, ap₂, sym, ◌∙◌, arith, subst}
 use Rattle.std.specs.List.{AllByRecursion, range_with_len}
 use Rattle.std.specs.Prelude.{nat_le, nat_lt, ◌&&◌, if◌then◌else◌}
 use Rattle.std.proofs.lemmas.Bool.Decides.{nat_tests}
@@ -18,6 +18,7 @@ use Rattle.sh_sharding.specs.Sharding.{ShardingValue, offset_of, parts_of, part_
 use Rattle.sh_sharding.specs.Cut.{whole_index, is_inside, cut_of, OwnsIn, Owns, local_index, held_cell, HasOneOwner, CutsDetermine, HoldsOwned, SizesSum}
 use Rattle.sh_sharding.proofs.PartLaws.{IsPlaced, part-ends, part_of-below, axes_of-each, offset_of-rises}
 use Rattle.sh_sharding.proofs.CutLaws.{at-cut_of}
+use Rattle.sh_sharding.proofs.Cases.{lt_or_le}
 
 -- ---- the part of an index
 
@@ -27,9 +28,6 @@ pub record IsPartWith (g : List ℕ) (d : Dimension) (x : ℕ) : Type 0 where
   pub below : part < parts_of g d
   pub from : offset_at g d part ≤ x
   pub to : x < offset_at g d (part + 1)
-
-lt_or_le : (x b : ℕ) → (x < b) ⊎ (b ≤ x)
-lt_or_le x b = grind arith
 
 part_among : (g : List ℕ) (d : Dimension) (x k : ℕ) → IsDivided d.extent (parts_of g d) d.mark → k ≤ parts_of g d → x < offset_at g d k → IsPartWith g d x
 unfolding offset_at

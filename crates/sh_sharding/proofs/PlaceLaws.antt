@@ -16,9 +16,7 @@ use Rattle.sh_sharding.specs.Sharding.{ShardingValue, start_in, size_in, local_e
 use Rattle.sh_sharding.specs.Cut.{local_index}
 use Rattle.sh_sharding.specs.Places.{IsOwn, place_of, IsPlace, ArePlaces, moved, shift_at, IsExtended, AreExtended, IsSmall, IsInside, IsWrittenAt, AreWritten, DiffersAt, IsLeastDiffering}
 use Rattle.sh_sharding.proofs.PartLaws.{IsPlaced, placed}
-
-lt_or_le : (a b : ℕ) → (a < b) ⊎ (b ≤ a)
-lt_or_le a b = grind arith
+use Rattle.sh_sharding.proofs.Cases.{lt_or_le}
 
 same_or_other : (a b : ℕ) → (a ≡ b) ⊎ (a ≢ b)
 same_or_other a b = elim (lt_or_le a b) [

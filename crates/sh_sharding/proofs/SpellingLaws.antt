@@ -15,15 +15,17 @@ use Rattle.sh_sharding.specs.declared.shardings.Mark.{Mark}
 use Rattle.sh_sharding.specs.declared.shardings.Mark.TheVariants.{Even, Offsets}
 use Rattle.sh_sharding.specs.declared.shardings.Dimension.{Dimension}
 use Rattle.sh_sharding.specs.Sharding.{ShardingValue, offset_of, offsets_of, parts_of, unsplit, axes_of, whole_of, local_shape, counted_cells, HasNoHalos, IsEven, IsDivided, IsNormalMark, IsDimension, IsSharding}
-use Rattle.sh_sharding.specs.Admission.{natural, IsBelow, IsNatural, listed_axes, listed, is_split, is_split_by, offset_count, halo_count, with_mark, haloed, mark_of, marked, with_halos, sharding_of, AreOffsets, AreAllOffsets, HalosFit, Keeps, IsAdmitted}
+use Rattle.sh_sharding.specs.Admission.{natural, IsBelow, IsNatural, listed_axes, listed, is_split, offset_count, halo_count, with_mark, haloed, mark_of, marked, with_halos, sharding_of, AreOffsets, AreAllOffsets, HalosFit, Keeps, IsAdmitted}
 use Rattle.sh_sharding.specs.Normal.{up_to_last_split}
 use Rattle.sh_sharding.specs.Spelling.{split_of, has_halo, halo_sizes, halos_of, is_uneven, is_uneven_mark, part_offsets, all_offsets_of, raw_of}
 use Rattle.sh_sharding.proofs.PartLaws.{axes_of-each}
 use Rattle.sh_sharding.proofs.AdmissionLaws.{get_or-offsets_of, mark_of-even, mark_of-none, mark_of-written}
 use Rattle.sh_sharding.proofs.DivisionLaws.{some_parts}
 use Rattle.sh_sharding.proofs.AdmissionSteps.{halos_stay}
-use Rattle.sh_sharding.proofs.AdmittedLaws.{marked_listed}
-use Rattle.sh_sharding.proofs.NormalLaws.{or_parts, bool_cases, some_split, none_split, length-up_to}
+use Rattle.sh_sharding.proofs.AdmittedLaws.{no_axes, marked_listed}
+use Rattle.sh_sharding.proofs.NormalLaws.{or_parts, some_split, none_split, length-up_to}
+use Rattle.std.proofs.lemmas.Bool.{cases_Bool}
+use Rattle.sh_sharding.proofs.Cases.{not_both}
 
 -- ---- numbers written and read again
 
@@ -45,13 +47,6 @@ plain d = record d { low = 0; high = 0 }
 abbrev extents : List Dimension → List ℕ
 extents ds = map (λ d. d.extent) ds
 
-no_axes : (d : Dimension) → is_split d ≡ false → d.axes ≡ []
-no_axes d h = axes_none d.axes h
-  where
-    axes_none : (axes : List ℕ) → is_split_by axes ≡ false → axes ≡ []
-    axes_none [] h = refl
-    axes_none (a ∷ axes) h = absurd (cc)
-
 whole_dimension : (g : List ℕ) (d : Dimension) → IsDimension g d → is_split d ≡ false → d ≡ unsplit d.extent
 whole_dimension g d ok h = ok.unsplit (no_axes d h)
 
@@ -70,7 +65,7 @@ none_listed (d ∷ ds) h =
 
 listed-up_to : (ds : List Dimension) → listed (map written_axes (up_to_last_split ds)) (extents ds) ≡ map bare ds
 listed-up_to [] = refl
-listed-up_to (d ∷ ds) = elim (bool_cases (list_any is_split (d ∷ ds))) [
+listed-up_to (d ∷ ds) = elim (cases_Bool (list_any is_split (d ∷ ds))) [
   | inl some ↦ ap (λ xs. listed (map written_axes xs) (extents (d ∷ ds))) (some_split d ds some) ∙ ap₂ ◌∷◌ (axes_again d) (listed-up_to ds)
   | inr none ↦ ap (λ xs. listed (map written_axes xs) (extents (d ∷ ds))) (none_split (d ∷ ds) none) ∙ none_listed (d ∷ ds) none
 ]
@@ -103,7 +98,7 @@ length-offsets_of n p m = length-map (offsets_of n p m) pos ∙ length-map-range
 
 length-part_offsets : (g : List ℕ) (d : Dimension) → length (part_offsets g d) ≡ offset_count g (bare d)
 unfolding offset_count parts_of
-length-part_offsets g d = elim (bool_cases (is_split d)) [
+length-part_offsets g d = elim (cases_Bool (is_split d)) [
   | inl split ↦
       ap length (part_offsets-split g d split)
       ∙ length-offsets_of d.extent (group_size_of g d.axes) d.mark
@@ -112,7 +107,7 @@ length-part_offsets g d = elim (bool_cases (is_split d)) [
 ]
 
 mark_again : (g : List ℕ) (d : Dimension) → IsDimension g d → mark_of d.extent (parts_of g d) (map natural (part_offsets g d)) ≡ d.mark
-mark_again g d ok = elim (bool_cases (is_split d)) [
+mark_again g d ok = elim (cases_Bool (is_split d)) [
   | inl split ↦
       ap (λ os. mark_of d.extent (parts_of g d) (map natural os)) (part_offsets-split g d split)
       ∙ ap (mark_of d.extent (parts_of g d)) (natural-pos (offsets_of d.extent (parts_of g d) d.mark))
@@ -170,7 +165,7 @@ offsets-none : (g : List ℕ) (ds : List Dimension) → list_any is_uneven ds �
 offsets-none g ds h = ap (λ (b : Bool). if b then flat_map (part_offsets g) ds else []) h
 
 marked-written : (g : List ℕ) (ds : List Dimension) → AllByRecursion (IsDimension g) ds → marked g (map bare ds) (all_offsets_of g ds) ≡ map plain ds
-marked-written g ds ok = elim (bool_cases (list_any is_uneven ds)) [
+marked-written g ds ok = elim (cases_Bool (list_any is_uneven ds)) [
   | inl some ↦ ap (marked g (map bare ds)) (offsets-some g ds some) ∙ marked-again g ds ok
   | inr none ↦
       let stay : map bare ds ≡ marked g (map bare ds) [] = subst (λ xs. xs ≡ marked g xs []) (listed-split_of ds) (marked_listed g (split_of ds) (extents ds)) in
@@ -187,13 +182,13 @@ halo_sizes-whole d h = ap (λ (b : Bool). if b then pos d.low ∷ pos d.high ∷
 
 length-halo_sizes : (d : Dimension) → length (halo_sizes d) ≡ halo_count (plain d)
 unfolding halo_count
-length-halo_sizes d = elim (bool_cases (is_split d)) [
+length-halo_sizes d = elim (cases_Bool (is_split d)) [
   | inl split ↦ ap length (halo_sizes-split d split) ∙ sym (ap (λ (b : Bool). if b then 2 else 0) split)
   | inr whole ↦ ap length (halo_sizes-whole d whole) ∙ sym (ap (λ (b : Bool). if b then 2 else 0) whole)
 ]
 
 haloed-again : (g : List ℕ) (d : Dimension) → IsDimension g d → haloed (plain d) (halo_sizes d) ≡ d
-haloed-again g d ok = elim (bool_cases (is_split d)) [
+haloed-again g d ok = elim (cases_Bool (is_split d)) [
   | inl split ↦ ap (haloed (plain d)) (halo_sizes-split d split)
   | inr whole ↦
       let e = whole_dimension g d ok whole in
@@ -247,7 +242,7 @@ again s ok =
     let ds = s.dimensions in
     let marks : marked g (listed (split_of ds) (extents ds)) (all_offsets_of g ds) ≡ map plain ds =
     ap (λ xs. marked g xs (all_offsets_of g ds)) (listed-split_of ds) ∙ marked-written g ds ok.dimensions in
-    elim (bool_cases (list_any has_halo ds)) [
+    elim (cases_Bool (list_any has_halo ds)) [
       | inl some ↦ ap₂ with_halos marks (halos-some ds some) ∙ halos-again g ds ok.dimensions
       | inr none ↦ sym (halos_stay s.grid (raw_of s) (whole_of s) (halos-none ds none)) ∙ marks ∙ plain_again ds (no_halos ds none)
     ]
@@ -259,7 +254,7 @@ spelling_again s ok = let e = again s ok in λ j. record { grid = s.grid; dimens
 
 up_to_each : (P : Dimension → Type 0) (ds : List Dimension) → AllByRecursion P ds → AllByRecursion P (up_to_last_split ds)
 up_to_each P [] h = tt
-up_to_each P (d ∷ ds) h = elim (bool_cases (list_any is_split (d ∷ ds))) [
+up_to_each P (d ∷ ds) h = elim (cases_Bool (list_any is_split (d ∷ ds))) [
   | inl some ↦ subst (AllByRecursion P) (sym (some_split d ds some)) (h.0, up_to_each P ds h.1)
   | inr none ↦ subst (AllByRecursion P) (sym (none_split (d ∷ ds) none)) tt
 ]
@@ -286,7 +281,7 @@ none_listed_axes (d ∷ ds) h =
 
 axes_of-up_to : (ds : List Dimension) → axes_of (up_to_last_split ds) ≡ axes_of ds
 axes_of-up_to [] = refl
-axes_of-up_to (d ∷ ds) = elim (bool_cases (list_any is_split (d ∷ ds))) [
+axes_of-up_to (d ∷ ds) = elim (cases_Bool (list_any is_split (d ∷ ds))) [
   | inl some ↦ ap axes_of (some_split d ds some) ∙ ap (λ xs. d.axes ++ xs) (axes_of-up_to ds)
   | inr none ↦ ap axes_of (none_split (d ∷ ds) none) ∙ sym (none_listed_axes (d ∷ ds) none)
 ]
@@ -314,7 +309,7 @@ times_none a x (y ∷ xs) none e =
 times_once : (rank a : ℕ) (xs : List ℕ) → AreAxesOf rank xs → times a xs ≤ 1
 unfolding times
 times_once rank a [] m = omega arith
-times_once rank a (x ∷ xs) m = elim (bool_cases (x == a)) [
+times_once rank a (x ∷ xs) m = elim (cases_Bool (x == a)) [
   | inl same ↦
       let e : x ≡ a = grind (arith, nat_tests) in
       let none = times_none a x xs m.1 e in
@@ -361,7 +356,7 @@ append_none [] ys h = (refl, h)
 append_none (x ∷ xs) ys h = absurd (cc)
 
 mark_even : (g : List ℕ) (d : Dimension) → IsDimension g d → part_offsets g d ≡ [] → d.mark ≡ Even
-mark_even g d ok none = elim (bool_cases (is_split d)) [
+mark_even g d ok none = elim (cases_Bool (is_split d)) [
   | inl split ↦
       let counted = length-offsets_of d.extent (parts_of g d) d.mark in
       let empty : length (map pos (offsets_of d.extent (parts_of g d) d.mark)) ≡ 0 = ap length (sym (part_offsets-split g d split) ∙ none) in
@@ -377,7 +372,7 @@ none_even g (d ∷ ds) ok h =
 
 -- where no offsets are written, all dimensions are divided evenly
 unwritten_even : (g : List ℕ) (ds : List Dimension) → AllByRecursion (IsDimension g) ds → all_offsets_of g ds ≡ [] → IsEven ds
-unwritten_even g ds ok h = elim (bool_cases (list_any is_uneven ds)) [
+unwritten_even g ds ok h = elim (cases_Bool (list_any is_uneven ds)) [
   | inl some ↦ none_even g ds ok (sym (offsets-some g ds some) ∙ h)
   | inr none ↦ all_even ds none
 ]
@@ -422,7 +417,7 @@ splits-bare (d ∷ ds) = ap (λ n. cond (is_split d) (1 + n) n) (splits-bare ds)
 length-halos : (ds : List Dimension) → length (flat_map halo_sizes ds) ≡ 2 * splits ds
 unfolding splits
 length-halos [] = refl
-length-halos (d ∷ ds) = elim (bool_cases (is_split d)) [
+length-halos (d ∷ ds) = elim (cases_Bool (is_split d)) [
   | inl split ↦
       let rec = length-halos ds in
       let two = ap length (halo_sizes-split d split) in
@@ -440,7 +435,7 @@ unfolding splits
 count-halos ds = length-halos ds ∙ ap (λ n. 2 * n) (sym (splits-bare ds) ∙ is_count_by splits is_split refl (λ x ys. refl) (map bare ds))
 
 sizes_natural : (d : Dimension) → All IsNatural (halo_sizes d)
-sizes_natural d = elim (bool_cases (is_split d)) [
+sizes_natural d = elim (cases_Bool (is_split d)) [
   | inl split ↦
       subst (All IsNatural) (sym (halo_sizes-split d split))
       (All-cons IsNatural (pos d.low) (pos d.high ∷ []) (omega (arith, ints)) (All-cons IsNatural (pos d.high) [] (omega (arith, ints)) (λ k x l. absurd (omega arith))))
@@ -455,9 +450,6 @@ each_fits : (g : List ℕ) (ds : List Dimension) → AllByRecursion (IsDimension
 each_fits g [] ok = tt
 each_fits g (d ∷ ds) ok = ((λ i l. (ok.0.low i l, ok.0.high i l)), each_fits g ds ok.1)
 
-not_both : (b : Bool) → b ≡ true → b ≡ false → ⊥
-not_both b h k = cc
-
 -- ---- all rules
 
 keeps : (s : ShardingValue) → IsSharding s → (rule : Rule) → Keeps rule s.grid (raw_of s) (whole_of s)
@@ -471,7 +463,7 @@ keeps s ok A4 = λ none.
     subst (All (λ d. d.extent % parts_of g d ≡ 0)) (sym (listed-split_of s.dimensions)) (All-from_recursion (λ d. d.extent % parts_of g d ≡ 0) (map bare s.dimensions) divisible)
 keeps s ok A5 = λ given.
     let g = s.grid.extents in
-    elim (bool_cases (list_any is_uneven s.dimensions)) [
+    elim (cases_Bool (list_any is_uneven s.dimensions)) [
       | inl some ↦
           subst (λ ds. AreAllOffsets g ds (all_offsets_of g s.dimensions)) (sym (listed-split_of s.dimensions))
           (subst (AreAllOffsets g (map bare s.dimensions)) (sym (offsets-some g s.dimensions some)) (all_offsets g s.dimensions ok.dimensions))
@@ -479,13 +471,13 @@ keeps s ok A5 = λ given.
     ]
 keeps s ok A6 = λ given.
     let g = s.grid.extents in
-    elim (bool_cases (list_any is_uneven s.dimensions)) [
+    elim (cases_Bool (list_any is_uneven s.dimensions)) [
       | inl some ↦
           let none = none_haloed s.dimensions (ok.one_mark (λ even. not_both (list_any is_uneven s.dimensions) some (none_uneven s.dimensions even))) in
           absurd (given (halos-none s.dimensions none))
       | inr none ↦ offsets-none g s.dimensions none
     ]
-keeps s ok A7 = λ given. elim (bool_cases (list_any has_halo s.dimensions)) [
+keeps s ok A7 = λ given. elim (cases_Bool (list_any has_halo s.dimensions)) [
   | inl some ↦
       let all = sym (halos-some s.dimensions some) in (
         subst (λ halos. length halos ≡ 2 * count_by is_split (listed (split_of s.dimensions) (extents s.dimensions))) all

@@ -25,9 +25,7 @@ use Rattle.sh_sharding.specs.Together.{part_at, AreParts, IsTogether, AreCutsOf,
 use Rattle.sh_sharding.specs.Places.{place_of, IsPlace, ArePlaces, IsInside, IsWrittenAt, AreWritten, IsLeastDiffering, IsStanding, AreHeld}
 use Rattle.sh_sharding.proofs.PlaceLaws.{place_inside, local_within, cells_few}
 use Rattle.sh_sharding.proofs.OwnerLaws.{one_owner, held_cell-cut_of}
-
-lt_or_le : (a b : ℕ) → (a < b) ⊎ (b ≤ a)
-lt_or_le a b = grind arith
+use Rattle.sh_sharding.proofs.Cases.{lt_or_le}
 
 -- ---- owners
 

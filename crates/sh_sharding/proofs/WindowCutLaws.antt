@@ -1,7 +1,6 @@
 -- A cut is the windows along all dimensions, one after the other.
-use Rattle.std.proofs.Common.{◌≡◌, ℕ, suc, ◌+◌, ◌-◌, ◌<◌, ◌⊎◌, inl, inr, List, [], ◌∷◌, ◌++◌, length, get_or, set, map, take, drop, Bool, true, false, refl, ap, ap₂, sym, ◌∙◌, arith, subst}
+use Rattle.std.proofs.Common.{◌≡◌, ℕ, suc, ◌+◌, ◌-◌, ◌<◌, inl, inr, List, [], ◌∷◌, ◌++◌, length, get_or, set, map, take, drop, Bool, true, false, refl, ap, ap₂, sym, ◌∙◌, subst}
 use Rattle.std.specs.Prelude.{nat_le, nat_lt, ◌&&◌, if◌then◌else◌}
-use Rattle.std.proofs.lemmas.Bool.Decides.{nat_tests}
 use Rattle.std.proofs.lemmas.List.{append_assoc, length-append}
 use Rattle.std.proofs.Math.Seq.{take-append_seam, drop-append_seam, set-append_seam, get_or-append_seam}
 use Rattle.sh_base.specs.declared.numbers.Cell.{Cell}
@@ -15,6 +14,7 @@ use Rattle.sh_sharding.specs.Cut.{whole_index, is_inside, cut_of}
 use Rattle.sh_sharding.specs.Windows.{window_cell, window_of, windows_of, CutsByWindows}
 use Rattle.sh_sharding.proofs.CutLaws.{whole_index-inside}
 use Rattle.sh_sharding.proofs.OwnerLaws.{IsIndexOf-append}
+use Rattle.std.proofs.lemmas.Bool.{cases_Bool}
 
 -- ---- an index of joined shapes
 
@@ -45,10 +45,6 @@ cell_after-joined g c ds axis t front back long =
     ap (λ a. if is_inside g c ds (drop a (front ++ back)) then at t (take a (front ++ back) ++ whole_index g c ds (drop a (front ++ back))) else Undef) (sym long)
     ∙ ap₂ (λ x y. if is_inside g c ds y then at t (x ++ whole_index g c ds y) else Undef) (take-append_seam front back) (drop-append_seam front back)
 
-bool_cases : (b : Bool) → (b ≡ true) ⊎ (b ≡ false)
-bool_cases true = inl refl
-bool_cases false = inr refl
-
 and_false : (a b : Bool) → b ≡ false → (a && b) ≡ false
 and_false true b e = e
 and_false false b e = refl
@@ -56,9 +52,6 @@ and_false false b e = refl
 and_true : (a b : Bool) → b ≡ true → a ≡ (a && b)
 and_true true b e = sym e
 and_true false b e = refl
-
-lt_from : (a b : ℕ) → nat_lt a b ≡ true → a < b
-lt_from a b h = grind (arith, nat_tests)
 
 -- ---- one window
 
@@ -94,7 +87,7 @@ step_cell : (g : List ℕ) (c : ℕ) (d : Dimension) (ds : List Dimension) (t : 
     → IsIndexOf p front → x < local_extent g c d → IsIndexOf (map (local_extent g c) ds) j
     → (if is_inside g c ds j then at (window_of g c d t axis) (front ++ x ∷ whole_index g c ds j) else Undef)
     ≡ (if is_inside g c (d ∷ ds) (x ∷ j) then at t (front ++ whole_index g c (d ∷ ds) (x ∷ j)) else Undef)
-step_cell g c d ds t axis p front j x long long_front shape hf hx hj = elim (bool_cases (is_inside g c ds j)) [
+step_cell g c d ds t axis p front j x long long_front shape hf hx hj = elim (cases_Bool (is_inside g c ds j)) [
   | inl inside ↦
       let w = whole_index g c ds j in
       let test = nat_le d.low (start_in g c d + x) && nat_lt (start_in g c d + x - d.low) d.extent in

@@ -1,5 +1,5 @@
 -- A cut is what slicing and padding leave, one dimension after the other.
-use Rattle.std.proofs.Common.{◌≡◌, ℕ, zero, suc, ◌+◌, ◌-◌, ◌*◌, ◌<◌, ◌≤◌, List, [], ◌∷◌, length, get_or, set, map, min, max, take, drop, replicate, Bool, true, false, refl, ap, ap₂, sym, ◌∙◌, arith, subst, ◌⊎◌, inl, inr}
+use Rattle.std.proofs.Common.{◌≡◌, ℕ, zero, suc, ◌+◌, ◌-◌, ◌*◌, ◌<◌, ◌≤◌, List, [], ◌∷◌, length, get_or, set, map, min, max, take, drop, replicate, Bool, true, false, refl, ap, ap₂, sym, ◌∙◌, arith, subst, inl, inr}
 use Rattle.std.specs.List.{AllByRecursion}
 use Rattle.std.specs.Prelude.{nat_le, nat_lt, ◌&&◌, if◌then◌else◌}
 use Rattle.std.proofs.lemmas.Bool.Decides.{nat_tests}
@@ -20,6 +20,7 @@ use Rattle.sh_sharding.specs.Sharding.{ShardingValue, start_in, size_in, local_e
 use Rattle.sh_sharding.specs.Cut.{whole_index, is_inside, cut_cell, cut_of}
 use Rattle.sh_sharding.specs.Windows.{from_in, end_in, taken_in, before_in, after_in, undefined_of, padded_cell, padded_of, sliced_shape, sliced_index, sliced_by, padded_shape, padded_index, is_taken, padded_by_cell, padded_by}
 use Rattle.sh_sharding.proofs.PartLaws.{IsPlaced, placed}
+use Rattle.sh_sharding.proofs.Cases.{and_left, and_right, le_from, lt_from, lt_or_le}
 
 -- ---- slices
 
@@ -130,14 +131,6 @@ choose_both true q x y z h = h refl
 choose_both false true x y z h = refl
 choose_both false false x y z h = refl
 
-and_right : (a b : Bool) → (a && b) ≡ true → b ≡ true
-and_right true b h = h
-and_right false true h = refl
-and_right false false h = absurd (cc)
-
-lt_from : (a b : ℕ) → nat_lt a b ≡ true → a < b
-lt_from a b h = grind (arith, nat_tests)
-
 -- the index in the tensor that is padded
 padded_within : (g : List ℕ) (c k : ℕ) (ds : List Dimension) (e : Dimension) (i : List ℕ) (y : ℕ) → k < length ds → IsIndexOf (padded_shape g c (suc k) ds) i → y < taken_in g c (get_or ds k e)
     → IsIndexOf (padded_shape g c k ds) (set i k y)
@@ -211,14 +204,6 @@ le_same a b m n h k = grind (arith, nat_tests)
 
 lt_same : (a b m n : ℕ) → (a < b → m < n) → (m < n → a < b) → nat_lt a b ≡ nat_lt m n
 lt_same a b m n h k = grind (arith, nat_tests)
-
-le_from : (a b : ℕ) → nat_le a b ≡ true → a ≤ b
-le_from a b h = grind (arith, nat_tests)
-
-and_left : (a b : Bool) → (a && b) ≡ true → a ≡ true
-and_left true b h = refl
-and_left false true h = absurd (cc)
-and_left false false h = absurd (cc)
 
 and_same : (p q r : Bool) → (p ≡ true → q ≡ r) → (p && q) ≡ (p && r)
 and_same true q r h = h refl
@@ -478,9 +463,6 @@ choose_part x b q y u v eu ev = elim (lt_or_le x b) [
       let second : nat_le b x ≡ true = grind (arith, nat_tests) in
       ap (λ (p : Bool). if p then u else (if q then y else v)) first ∙ ap (λ (z : Cell). if q then y else z) ev ∙ sym (ap (λ (p : Bool). if p && q then y else Undef) second)
 ]
-  where
-    lt_or_le : (x b : ℕ) → (x < b) ⊎ (b ≤ x)
-    lt_or_le x b = grind arith
 
 like_first : (t : TensorValue) (a before n : ℕ) (w : Width) → a < length t.shape → IsLike a (undefined_of (set t.shape a before) w) (undefined_of (set t.shape a n) w)
 like_first t a before n w l = record {
