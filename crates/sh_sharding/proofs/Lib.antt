@@ -13,5 +13,5 @@ pub mod LocalTypeLaws
 pub mod WindowCutLaws
 pub mod NormalLaws
 pub mod SpellingLaws
-pub mod PlaceLaws
+pub mod PositionLaws
 pub mod TogetherLaws

@@ -16,14 +16,14 @@ use Rattle.sh_grid.proofs.GroupLaws.{member_of-below}
 use Rattle.sh_tensor.specs.Tensor.{TensorValue, IsTensor, at}
 use Rattle.sh_tensor.proofs.TensorLaws.{tensor_ext, held}
 use Rattle.sh_sharding.specs.declared.shardings.Dimension.{Dimension}
-use Rattle.sh_sharding.specs.declared.places.Place.{Place}
+use Rattle.sh_sharding.specs.declared.positions.Position.{Position}
 use Rattle.sh_sharding.specs.declared.together.Put.{Put}
 use Rattle.sh_sharding.specs.declared.together.Put.TheVariants.{Differ, Mem}
 use Rattle.sh_sharding.specs.Sharding.{ShardingValue, start_in, size_in, local_shape, whole_of, axes_of, IsSharding}
 use Rattle.sh_sharding.specs.Cut.{OwnsIn, Owns, local_index, held_cell, cut_of}
 use Rattle.sh_sharding.specs.Together.{part_at, AreParts, IsTogether, AreCutsOf, OwnsCell, held_at, IsFirstOwner, IsFirstDiffering, IsPutRefusal}
-use Rattle.sh_sharding.specs.Places.{place_of, IsPlace, ArePlaces, IsInside, IsWrittenAt, AreWritten, IsLeastDiffering, IsStanding, AreHeld}
-use Rattle.sh_sharding.proofs.PlaceLaws.{place_inside, local_within, cells_few}
+use Rattle.sh_sharding.specs.Positions.{position_of, IsPosition, ArePositions, IsInside, IsWrittenAt, AreWritten, IsLeastDiffering, IsStanding, AreHeld}
+use Rattle.sh_sharding.proofs.PositionLaws.{position_inside, local_within, cells_few}
 use Rattle.sh_sharding.proofs.OwnerLaws.{one_owner, held_cell-cut_of}
 use Rattle.sh_sharding.proofs.Cases.{lt_or_le}
 
@@ -69,14 +69,14 @@ first_owner s i device l owns = elim (first_among s i (cell_count s.grid.extents
 
 -- ---- the cells of one device
 
--- what a place of the device's own is
-pub record IsOwnCell (s : ShardingValue) (device : ℕ) (place : Place) : Type 0 where
-  pub below : place.whole < cell_count (whole_of s)
-  pub owns : OwnsCell s device place.whole
-  pub local : place.local ≡ flat_of (local_shape s device) (local_index s.grid.extents device s.dimensions (unflat_of (whole_of s) place.whole))
+-- what a position of the device's own is
+pub record IsOwnCell (s : ShardingValue) (device : ℕ) (position : Position) : Type 0 where
+  pub below : position.whole < cell_count (whole_of s)
+  pub owns : OwnsCell s device position.whole
+  pub local : position.local ≡ flat_of (local_shape s device) (local_index s.grid.extents device s.dimensions (unflat_of (whole_of s) position.whole))
 
-own_cell : (s : ShardingValue) (device : ℕ) (place : Place) → IsPlace s.grid.extents device s.dimensions place → IsOwnCell s device place
-own_cell s device place h =
+own_cell : (s : ShardingValue) (device : ℕ) (position : Position) → IsPosition s.grid.extents device s.dimensions position → IsOwnCell s device position
+own_cell s device position h =
     let i = h.index in
     let back : unflat_of (whole_of s) (flat_of (whole_of s) i) ≡ i = unflat_of-flat_of (whole_of s) i h.own.within in
     subst (IsOwnCell s device) (sym h.value) (record {
@@ -93,27 +93,27 @@ held_read s parts device cell local shape e =
     let j = local_index s.grid.extents device s.dimensions (unflat_of (whole_of s) cell) in
     ap (λ k. get_or (part_at parts device).cells k Undef) (e ∙ ap (λ z. flat_of z j) (sym shape))
 
--- the place of a cell that the device owns is among its places
-own_place : (s : ShardingValue) (device cell : ℕ) (places : List Place) → ArePlaces s.grid.extents device s.dimensions places → cell < cell_count (whole_of s) → OwnsCell s device cell
-    → Contains places (place_of s.grid.extents device s.dimensions (unflat_of (whole_of s) cell))
-own_place s device cell places h l owns = h.full (unflat_of (whole_of s) cell) (record { within = unflat_of-within (whole_of s) cell l; owns = owns })
+-- the position of a cell that the device owns is among its positions
+own_position : (s : ShardingValue) (device cell : ℕ) (positions : List Position) → ArePositions s.grid.extents device s.dimensions positions → cell < cell_count (whole_of s) → OwnsCell s device cell
+    → Contains positions (position_of s.grid.extents device s.dimensions (unflat_of (whole_of s) cell))
+own_position s device cell positions h l owns = h.full (unflat_of (whole_of s) cell) (record { within = unflat_of-within (whole_of s) cell l; owns = owns })
 
-written_own : (s : ShardingValue) (parts : List TensorValue) (device cell : ℕ) (places : List Place) (before after : List Cell) → (part_at parts device).shape ≡ local_shape s device
-    → ArePlaces s.grid.extents device s.dimensions places → AreWritten places (part_at parts device).cells before after → cell < cell_count (whole_of s) → OwnsCell s device cell
+written_own : (s : ShardingValue) (parts : List TensorValue) (device cell : ℕ) (positions : List Position) (before after : List Cell) → (part_at parts device).shape ≡ local_shape s device
+    → ArePositions s.grid.extents device s.dimensions positions → AreWritten positions (part_at parts device).cells before after → cell < cell_count (whole_of s) → OwnsCell s device cell
     → get_or after cell Undef ≡ held_at s parts device cell
-written_own s parts device cell places before after shape h written l owns =
-    let place = place_of s.grid.extents device s.dimensions (unflat_of (whole_of s) cell) in
-    let same : place.whole ≡ cell = flat_of-unflat_of (whole_of s) cell l in
-    let here : IsWrittenAt places (part_at parts device).cells after cell =
-    subst (IsWrittenAt places (part_at parts device).cells after) same (written.own place (own_place s device cell places h l owns)) in
-    let own = own_cell s device here.place (All-contains (IsPlace s.grid.extents device s.dimensions) places here.place h.each here.among) in
+written_own s parts device cell positions before after shape h written l owns =
+    let position = position_of s.grid.extents device s.dimensions (unflat_of (whole_of s) cell) in
+    let same : position.whole ≡ cell = flat_of-unflat_of (whole_of s) cell l in
+    let here : IsWrittenAt positions (part_at parts device).cells after cell =
+    subst (IsWrittenAt positions (part_at parts device).cells after) same (written.own position (own_position s device cell positions h l owns)) in
+    let own = own_cell s device here.position (All-contains (IsPosition s.grid.extents device s.dimensions) positions here.position h.each here.among) in
     here.value
-    ∙ held_read s parts device cell here.place.local shape (own.local ∙ ap (λ z. flat_of (local_shape s device) (local_index s.grid.extents device s.dimensions (unflat_of (whole_of s) z))) here.here)
+    ∙ held_read s parts device cell here.position.local shape (own.local ∙ ap (λ z. flat_of (local_shape s device) (local_index s.grid.extents device s.dimensions (unflat_of (whole_of s) z))) here.here)
 
-written_other : (s : ShardingValue) (device cell : ℕ) (places : List Place) (part before after : List Cell) → ArePlaces s.grid.extents device s.dimensions places → AreWritten places part before after
+written_other : (s : ShardingValue) (device cell : ℕ) (positions : List Position) (part before after : List Cell) → ArePositions s.grid.extents device s.dimensions positions → AreWritten positions part before after
     → (¬ OwnsCell s device cell) → get_or after cell Undef ≡ get_or before cell Undef
-written_other s device cell places part before after h written none =
-    written.others cell (λ place among e. none (subst (OwnsCell s device) e (own_cell s device place (All-contains (IsPlace s.grid.extents device s.dimensions) places place h.each among)).owns))
+written_other s device cell positions part before after h written none =
+    written.others cell (λ position among e. none (subst (OwnsCell s device) e (own_cell s device position (All-contains (IsPosition s.grid.extents device s.dimensions) positions position h.each among)).owns))
 
 held_fits : (s : ShardingValue) (parts : List TensorValue) (device cell : ℕ) → AreParts s parts → device < cell_count s.grid.extents → IsTensor (part_at parts device) → cell < cell_count (whole_of s) → OwnsCell s device cell
     → IsCellOf (part_at parts 0).width (held_at s parts device cell)
@@ -125,9 +125,9 @@ held_fits s parts device cell ok l whole lc owns =
 
 -- ---- all devices
 
-pub standing_more : (s : ShardingValue) (parts : List TensorValue) (device from : ℕ) (places : List Place) (before after : List Cell) → AreParts s parts → device < cell_count s.grid.extents → from ≡ device + 1 → IsTensor (part_at parts device)
-    → ArePlaces s.grid.extents device s.dimensions places → AreWritten places (part_at parts device).cells before after → IsStanding s parts from before → IsStanding s parts device after
-standing_more s parts device from places before after ok l ef whole h written standing =
+pub standing_more : (s : ShardingValue) (parts : List TensorValue) (device from : ℕ) (positions : List Position) (before after : List Cell) → AreParts s parts → device < cell_count s.grid.extents → from ≡ device + 1 → IsTensor (part_at parts device)
+    → ArePositions s.grid.extents device s.dimensions positions → AreWritten positions (part_at parts device).cells before after → IsStanding s parts from before → IsStanding s parts device after
+standing_more s parts device from positions before after ok l ef whole h written standing =
     let shape = ok.shapes device l in
     let counted = written.long ∙ standing.counted in
     record {
@@ -135,19 +135,19 @@ standing_more s parts device from places before after ok l ef whole h written st
       fitting = All-from_get_or (IsCellOf (part_at parts 0).width) after Undef (λ k lk.
           let lc : k < cell_count (whole_of s) = omega arith in
           elim (owns_or_not s.grid.extents device s.dimensions (unflat_of (whole_of s) k)) [
-            | inl owns ↦ subst (IsCellOf (part_at parts 0).width) (sym (written_own s parts device k places before after shape h written lc owns)) (held_fits s parts device k ok l whole lc owns)
+            | inl owns ↦ subst (IsCellOf (part_at parts 0).width) (sym (written_own s parts device k positions before after shape h written lc owns)) (held_fits s parts device k ok l whole lc owns)
             | inr other ↦
                 let long = standing.counted in
-                subst (IsCellOf (part_at parts 0).width) (sym (written_other s device k places (part_at parts device).cells before after h written other))
+                subst (IsCellOf (part_at parts 0).width) (sym (written_other s device k positions (part_at parts device).cells before after h written other))
                 (All-get_or (IsCellOf (part_at parts 0).width) before k Undef (omega arith) standing.fitting)
           ]);
       first = λ cell other lc from_here lo owns none. elim (lt_or_le device other) [
         | inl later ↦
-            written_other s device cell places (part_at parts device).cells before after h written (none device (omega arith) later)
+            written_other s device cell positions (part_at parts device).cells before after h written (none device (omega arith) later)
             ∙ standing.first cell other lc (omega arith) lo owns (λ c lf lt. none c (omega arith) lt)
         | inr no_later ↦
             let same : device ≡ other = omega arith in
-            subst (λ z. get_or after cell Undef ≡ held_at s parts z cell) same (written_own s parts device cell places before after shape h written lc (subst (λ z. OwnsCell s z cell) (sym same) owns))
+            subst (λ z. get_or after cell Undef ≡ held_at s parts z cell) same (written_own s parts device cell positions before after shape h written lc (subst (λ z. OwnsCell s z cell) (sym same) owns))
       ];
     }
 
@@ -161,24 +161,24 @@ part_read parts device part l e = get_or_read parts device part l e (record { sh
 pub is_device : (s : ShardingValue) (g : GridValue) (n device : ℕ) → s.grid ≡ g → n ≡ cell_count g.extents → device < n → device < cell_count s.grid.extents
 is_device s g n device eg en l = subst (λ z. device < cell_count z.extents) (sym eg) (omega arith)
 
-pub standing_step : (s : ShardingValue) (parts : List TensorValue) (device from : ℕ) (part : TensorValue) (own : List Cell) (read places : List Place) (before after : List Cell) → AreParts s parts → device < cell_count s.grid.extents → from ≡ device + 1
-    → part ≡ get_or parts device part → IsTensor part → own ≡ part.cells → read ≡ places → ArePlaces s.grid.extents device s.dimensions places → AreWritten read own before after → IsStanding s parts from before → IsStanding s parts device after
-standing_step s parts device from part own read places before after ok l ef e whole eo er h written standing =
+pub standing_step : (s : ShardingValue) (parts : List TensorValue) (device from : ℕ) (part : TensorValue) (own : List Cell) (read positions : List Position) (before after : List Cell) → AreParts s parts → device < cell_count s.grid.extents → from ≡ device + 1
+    → part ≡ get_or parts device part → IsTensor part → own ≡ part.cells → read ≡ positions → ArePositions s.grid.extents device s.dimensions positions → AreWritten read own before after → IsStanding s parts from before → IsStanding s parts device after
+standing_step s parts device from part own read positions before after ok l ef e whole eo er h written standing =
     let count = ok.counted in
     let same = part_read parts device part (omega arith) e in
-    standing_more s parts device from places before after ok l ef (subst IsTensor same whole) h
-    (subst (λ z. AreWritten places z before after) (eo ∙ ap (λ z. z.cells) same) (subst (λ z. AreWritten z own before after) er written)) standing
+    standing_more s parts device from positions before after ok l ef (subst IsTensor same whole) h
+    (subst (λ z. AreWritten positions z before after) (eo ∙ ap (λ z. z.cells) same) (subst (λ z. AreWritten z own before after) er written)) standing
 
--- the places lie in the whole and in the part
-pub places_fit : (s : ShardingValue) (parts : List TensorValue) (device whole local : ℕ) (part : TensorValue) (read places : List Place) → AreParts s parts → device < cell_count s.grid.extents → part ≡ get_or parts device part
-    → whole ≡ cell_count (whole_of s) → local ≡ cell_count part.shape → read ≡ places → ArePlaces s.grid.extents device s.dimensions places → All (IsInside whole local) read
-places_fit s parts device whole local part read places ok l e ew el er h =
+-- the positions lie in the whole and in the part
+pub positions_fit : (s : ShardingValue) (parts : List TensorValue) (device whole local : ℕ) (part : TensorValue) (read positions : List Position) → AreParts s parts → device < cell_count s.grid.extents → part ≡ get_or parts device part
+    → whole ≡ cell_count (whole_of s) → local ≡ cell_count part.shape → read ≡ positions → ArePositions s.grid.extents device s.dimensions positions → All (IsInside whole local) read
+positions_fit s parts device whole local part read positions ok l e ew el er h =
     let count = ok.counted in
     let same = part_read parts device part (omega arith) e in
     let long : local ≡ cell_count (local_shape s device) = el ∙ ap (λ z. cell_count z.shape) same ∙ ap cell_count (ok.shapes device l) in
     subst (All (IsInside whole local)) (sym er)
-    (subst (λ n. All (IsInside n local) places) (sym ew) (subst (λ n. All (IsInside (cell_count (whole_of s)) n) places) (sym long)
-    (All-weaker (IsPlace s.grid.extents device s.dimensions) (IsInside (cell_count (whole_of s)) (cell_count (local_shape s device))) (place_inside s.grid.extents device s.dimensions) places h.each)))
+    (subst (λ n. All (IsInside n local) positions) (sym ew) (subst (λ n. All (IsInside (cell_count (whole_of s)) n) positions) (sym long)
+    (All-weaker (IsPosition s.grid.extents device s.dimensions) (IsInside (cell_count (whole_of s)) (cell_count (local_shape s device))) (position_inside s.grid.extents device s.dimensions) positions h.each)))
 
 -- where a device holds another cell
 pub record IsFoundAt (s : ShardingValue) (parts : List TensorValue) (cells : List Cell) (upto device cell : ℕ) : Type 0 where
@@ -200,34 +200,34 @@ pub record IsDeviceLeast (s : ShardingValue) (parts : List TensorValue) (cells :
   pub owns : least < cell_count (whole_of s) → OwnsCell s device least
   pub differs : least < cell_count (whole_of s) → held_at s parts device least ≢ get_or cells least Undef
 
-device_least : (s : ShardingValue) (parts : List TensorValue) (cells : List Cell) (device least : ℕ) (places : List Place) → (part_at parts device).shape ≡ local_shape s device → length cells ≡ cell_count (whole_of s)
-    → ArePlaces s.grid.extents device s.dimensions places → IsLeastDiffering places (part_at parts device).cells cells least → IsDeviceLeast s parts cells device least
-device_least s parts cells device least places shape counted h at_least =
+device_least : (s : ShardingValue) (parts : List TensorValue) (cells : List Cell) (device least : ℕ) (positions : List Position) → (part_at parts device).shape ≡ local_shape s device → length cells ≡ cell_count (whole_of s)
+    → ArePositions s.grid.extents device s.dimensions positions → IsLeastDiffering positions (part_at parts device).cells cells least → IsDeviceLeast s parts cells device least
+device_least s parts cells device least positions shape counted h at_least =
     let within = at_least.within in
     let local : ℕ → ℕ = λ cell. flat_of (local_shape s device) (local_index s.grid.extents device s.dimensions (unflat_of (whole_of s) cell)) in
-    let own : (place : Place) → Contains places place → IsOwnCell s device place = λ place among. own_cell s device place (All-contains (IsPlace s.grid.extents device s.dimensions) places place h.each among) in
+    let own : (position : Position) → Contains positions position → IsOwnCell s device position = λ position among. own_cell s device position (All-contains (IsPosition s.grid.extents device s.dimensions) positions position h.each among) in
     record {
       few = omega arith;
       alike = λ cell l owns.
           let lc : cell < cell_count (whole_of s) = omega arith in
-          let place = place_of s.grid.extents device s.dimensions (unflat_of (whole_of s) cell) in
-          let same : place.whole ≡ cell = flat_of-unflat_of (whole_of s) cell lc in
-          sym (held_read s parts device cell place.local shape refl)
-          ∙ at_least.alike place (own_place s device cell places h lc owns) (subst (λ k. k < least) (sym same) l)
+          let position = position_of s.grid.extents device s.dimensions (unflat_of (whole_of s) cell) in
+          let same : position.whole ≡ cell = flat_of-unflat_of (whole_of s) cell lc in
+          sym (held_read s parts device cell position.local shape refl)
+          ∙ at_least.alike position (own_position s device cell positions h lc owns) (subst (λ k. k < least) (sym same) l)
           ∙ ap (λ k. get_or cells k Undef) same;
-      owns = λ l. let there = at_least.found (omega arith) in subst (OwnsCell s device) there.here (own there.place there.among).owns;
+      owns = λ l. let there = at_least.found (omega arith) in subst (OwnsCell s device) there.here (own there.position there.among).owns;
       differs = λ l e.
           let there = at_least.found (omega arith) in
-          there.differs (held_read s parts device least there.place.local shape ((own there.place there.among).local ∙ ap local there.here) ∙ e);
+          there.differs (held_read s parts device least there.position.local shape ((own there.position there.among).local ∙ ap local there.here) ∙ e);
     }
 
-pub least_read : (s : ShardingValue) (parts : List TensorValue) (cells : List Cell) (device least : ℕ) (part : TensorValue) (own : List Cell) (read places : List Place) → AreParts s parts → device < cell_count s.grid.extents → part ≡ get_or parts device part
-    → length cells ≡ cell_count (whole_of s) → own ≡ part.cells → read ≡ places → ArePlaces s.grid.extents device s.dimensions places → IsLeastDiffering read own cells least → IsDeviceLeast s parts cells device least
-least_read s parts cells device least part own read places ok l e counted eo er h at_least =
+pub least_read : (s : ShardingValue) (parts : List TensorValue) (cells : List Cell) (device least : ℕ) (part : TensorValue) (own : List Cell) (read positions : List Position) → AreParts s parts → device < cell_count s.grid.extents → part ≡ get_or parts device part
+    → length cells ≡ cell_count (whole_of s) → own ≡ part.cells → read ≡ positions → ArePositions s.grid.extents device s.dimensions positions → IsLeastDiffering read own cells least → IsDeviceLeast s parts cells device least
+least_read s parts cells device least part own read positions ok l e counted eo er h at_least =
     let count = ok.counted in
     let same = part_read parts device part (omega arith) e in
-    device_least s parts cells device least places (ok.shapes device l) counted h
-    (subst (λ z. IsLeastDiffering places z cells least) (eo ∙ ap (λ z. z.cells) same) (subst (λ z. IsLeastDiffering z own cells least) er at_least))
+    device_least s parts cells device least positions (ok.shapes device l) counted h
+    (subst (λ z. IsLeastDiffering positions z cells least) (eo ∙ ap (λ z. z.cells) same) (subst (λ z. IsLeastDiffering z own cells least) er at_least))
 
 pub first_kept : (s : ShardingValue) (parts : List TensorValue) (cells : List Cell) (upto device first least : ℕ) → IsDeviceLeast s parts cells upto least → first ≤ least → IsFirstSoFar s parts cells upto device first
     → IsFirstSoFar s parts cells (upto + 1) device first

@@ -6,4 +6,4 @@ pub mod LocalTypes
 pub mod Normal
 pub mod Spelling
 pub mod Together
-pub mod Places
+pub mod Positions

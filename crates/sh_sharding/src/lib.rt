@@ -8,7 +8,7 @@ mod laws;
 mod normal;
 mod padding;
 mod parts;
-mod places;
+mod positions;
 mod shardings;
 mod spelling;
 mod together;

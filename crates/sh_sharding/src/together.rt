@@ -2,11 +2,11 @@ ghost use Rattle.std.specs.Prelude.{◌≡◌, ℕ, ◌<◌, ◌≤◌, IfErr, I
 ghost use Rattle.sh_base.specs.Shape.{cell_count};
 ghost use Rattle.sh_tensor.specs.Tensor.{TensorValue};
 ghost use Rattle.sh_sharding.specs.declared.together.Put.TheVariants.{Mem as WantOfMemory};
-ghost use Rattle.sh_sharding.specs.Places.{AreHeld, IsStanding};
+ghost use Rattle.sh_sharding.specs.Positions.{AreHeld, IsStanding};
 ghost use Rattle.sh_sharding.specs.Sharding.{whole_of};
 ghost use Rattle.sh_sharding.specs.Together.{AreCutsOf, AreParts, IsPutRefusal, IsTogether, part_at};
 
-use crate::places::{least_differing, own_places, write_own};
+use crate::positions::{least_differing, own_positions, write_own};
 use crate::{Sharding, whole};
 use sh_base::{Cell, Mem, Width, count, shape};
 use sh_grid::{Grid, devices};
@@ -60,10 +60,10 @@ fn standing(alloc: Global, parts: &[Tensor], s: &Sharding, g: &Grid) -> Result<V
     for back in 0..devices {
         // The last writer of a cell is its first owner.
         let device = devices - 1 - back;
-        let places = own_places(alloc, s, g, device)?;
+        let positions = own_positions(alloc, s, g, device)?;
         let part = &parts[device as usize];
         let _whole = part.shape();
-        write_own(&mut cells, part.cells(), places.as_slice());
+        write_own(&mut cells, part.cells(), positions.as_slice());
     }
     Ok(cells)
 }
@@ -86,9 +86,9 @@ fn compare(
     let mut first_cell = total;
     let mut first_device = 0;
     for device in 0..devices(g) {
-        let places = own_places(alloc, s, g, device)?;
+        let positions = own_positions(alloc, s, g, device)?;
         let part = &parts[device as usize];
-        let least = least_differing(cells, part.cells(), places.as_slice());
+        let least = least_differing(cells, part.cells(), positions.as_slice());
         if least < first_cell {
             first_cell = least;
             first_device = device;

@@ -1,6 +1,6 @@
 use Rattle.std.proofs.Common.{◌≡◌, ◌+◌, ap, subst, sym, arith}
 use Rattle.sh_base.specs.Shape.{cell_count}
-use Rattle.sh_sharding.proofs.TogetherLaws.{IsFirstSoFar, is_device, places_fit, least_read, first_kept, first_less, refused}
+use Rattle.sh_sharding.proofs.TogetherLaws.{IsFirstSoFar, is_device, positions_fit, least_read, first_kept, first_less, refused}
 use Rattle.sh_sharding.proofs.together.compare.Goals as goal
 use Rattle.sh_sharding.proofs.together.compare.Goals.{then-least-first_cell, else-least-first_cell}
 
@@ -14,14 +14,14 @@ least_differing-least-requires-clause-few c =
 pub least_differing-least-requires-clause-inside : goal.least_differing-least-requires-clause-inside
 least_differing-least-requires-clause-inside c =
     let there = is_device c.args.s.now c.args.g.now c.devices-device-end.result c.loop-device.device c.requires.grid c.devices-device-end.ensures.value c.loop-device-test.true in
-    places_fit c.args.s.now c.args.parts.now c.loop-device.device _ _ c.index-parts-device.result c.as_slice.result.now c.in_ok-places.places.items c.requires.parts there c.index-parts-device.is
-    c.requires.standing.counted c.cells.ensures.counted c.as_slice.ensures.value c.in_ok-places.ensures
+    positions_fit c.args.s.now c.args.parts.now c.loop-device.device _ _ c.index-parts-device.result c.as_slice.result.now c.in_ok-positions.positions.items c.requires.parts there c.index-parts-device.is
+    c.requires.standing.counted c.cells.ensures.counted c.as_slice.ensures.value c.in_ok-positions.ensures
 
 pub loop-device-preserved : goal.loop-device-preserved
 loop-device-preserved c =
     let there = is_device c.args.s.now c.args.g.now c.devices-device-end.result c.loop-device.device c.requires.grid c.devices-device-end.ensures.value c.loop-device-test.true in
-    let here = least_read c.args.s.now c.args.parts.now c.args.cells.now c.loop-device.device c.least_differing-least.result c.index-parts-device.result c.cells.result.now c.as_slice.result.now c.in_ok-places.places.items c.requires.parts there c.index-parts-device.is
-    c.requires.standing.counted c.cells.ensures.value c.as_slice.ensures.value c.in_ok-places.ensures c.least_differing-least.ensures in
+    let here = least_read c.args.s.now c.args.parts.now c.args.cells.now c.loop-device.device c.least_differing-least.result c.index-parts-device.result c.cells.result.now c.as_slice.result.now c.in_ok-positions.positions.items c.requires.parts there c.index-parts-device.is
+    c.requires.standing.counted c.cells.ensures.value c.as_slice.ensures.value c.in_ok-positions.ensures c.least_differing-least.ensures in
     elim c.if-least-first_cell.branch [
       | then-least-first_cell w ↦
           subst (IsFirstSoFar c.args.s.now c.args.parts.now c.args.cells.now (c.loop-device.device + 1) c.if-least-first_cell.first_device) (sym w.first_cell-is)

@@ -3,9 +3,9 @@ use Rattle.sh_base.specs.declared.numbers.Cell.{Cell}
 use Rattle.sh_base.specs.declared.numbers.Width.{Width}
 use Rattle.sh_tensor.specs.Tensor.{TensorValue}
 use Rattle.sh_sharding.specs.Sharding.{whole_of}
-use Rattle.sh_sharding.specs.Places.{AreHeld, IsStanding}
+use Rattle.sh_sharding.specs.Positions.{AreHeld, IsStanding}
 use Rattle.sh_sharding.specs.Together.{part_at, IsPutRefusal}
-use Rattle.sh_sharding.proofs.PlaceLaws.{cells_few}
+use Rattle.sh_sharding.proofs.PositionLaws.{cells_few}
 use Rattle.sh_sharding.proofs.TogetherLaws.{some_part, is_tensor, together, again, again_err}
 use Rattle.sh_sharding.proofs.together.put_together.Goals as goal
 

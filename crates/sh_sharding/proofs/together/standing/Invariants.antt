@@ -1,5 +1,5 @@
 use Rattle.std.proofs.Common.{◌-◌}
-use Rattle.sh_sharding.specs.Places.{IsStanding}
+use Rattle.sh_sharding.specs.Positions.{IsStanding}
 use Rattle.sh_sharding.proofs.together.standing.Given as goal
 
 -- each cell is that of its first owner among the last devices

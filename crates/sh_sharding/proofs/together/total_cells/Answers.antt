@@ -1,6 +1,6 @@
 use Rattle.std.proofs.Common.{◌≤◌}
 use Rattle.sh_base.specs.Shape.{cell_count}
-use Rattle.sh_sharding.proofs.PlaceLaws.{cells_few}
+use Rattle.sh_sharding.proofs.PositionLaws.{cells_few}
 use Rattle.std.proofs.Common.{rules}
 use Rattle.sh_sharding.proofs.together.total_cells.Goals as goal
 
