@@ -1,7 +1,7 @@
 -- The letters of a rule's code.
 use Rattle.std.specs.Prelude.{ℕ, List, codes}
 use Rattle.sh_base.specs.declared.rules.Rule.{Rule}
-use Rattle.sh_base.specs.declared.rules.Rule.TheVariants.{B1, B2, B3, P1, P2, P3, L1, L2, L3, L4, L5, L6, L7, L8, L9, L10, V1, V2, V3, V4, V5, V6, V7, V8, V9, V10, V11, A1, A2, A3, A4, A5, A6, A7, A8, A9, A10, C1, C2, C3, N1, N2, N3, N4, U1, U2, E1, E2, K1, K2, K3, K4}
+use Rattle.sh_base.specs.declared.rules.Rule.TheVariants.{B1, B2, B3, P1, P2, P3, L1, L2, L3, L4, L5, L6, L7, L8, L9, L10, V1, V2, V3, V4, V5, V6, V7, V8, V9, V10, V11, A1, A2, A3, A5, A6, A7, A8, A9, A10, C1, C2, C3, N1, N2, N3, N4, U1, U2, E1, E2, K1, K2, K3, K4}
 
 abbrev pub code_of : Rule → List ℕ
 code_of B1 = codes "B1"
@@ -34,7 +34,6 @@ code_of V11 = codes "V11"
 code_of A1 = codes "A1"
 code_of A2 = codes "A2"
 code_of A3 = codes "A3"
-code_of A4 = codes "A4"
 code_of A5 = codes "A5"
 code_of A6 = codes "A6"
 code_of A7 = codes "A7"

@@ -58,7 +58,7 @@ pub enum Rule {
     V9,
     /// An operation or type stands in the wrong form of function.
     V10,
-    /// A call isn't the callee's.
+    /// A function reaches itself over calls.
     V11,
     /// A listed axis isn't an axis of the grid.
     A1,
@@ -66,8 +66,6 @@ pub enum Rule {
     A2,
     /// There are more lists of axes than dimensions.
     A3,
-    /// A dimension isn't divisible by its number of parts.
-    A4,
     /// Offsets are malformed.
     A5,
     /// Halo sizes and offsets are both given.
@@ -102,13 +100,13 @@ pub enum Rule {
     E1,
     /// A device's turn is stuck.
     E2,
-    /// A line of a trace is malformed.
+    /// A turn line of a trace is malformed, or out of count.
     K1,
-    /// A line of a trace isn't that of the run.
+    /// A turn line names no device that can move, or not its next instruction.
     K2,
-    /// A turn of a trace can't be made.
+    /// The turn lines of a call end before its run is finished.
     K3,
-    /// A trace doesn't end where its run does.
+    /// Another line of a trace isn't the expected one, is missing, or comes after the last.
     K4,
 }
 
@@ -148,7 +146,6 @@ impl Rule {
             Rule::A1 => "A1",
             Rule::A2 => "A2",
             Rule::A3 => "A3",
-            Rule::A4 => "A4",
             Rule::A5 => "A5",
             Rule::A6 => "A6",
             Rule::A7 => "A7",

@@ -1,5 +1,5 @@
 ghost use Rattle.std.specs.Prelude.{◌≡◌, ◌<◌, ◌≤◌, ◌≢◌, length, IfSome, IfNone};
-ghost use Rattle.sh_base.specs.Shape.{cell_count, IsIndexOf, flat_of, unflat_of};
+ghost use Rattle.sh_base.specs.Shape.{cell_count, max_cells, max_rank, IsIndexOf, flat_of, unflat_of};
 
 use smallvec::SmallVec;
 use std::alloc::Global;
@@ -19,18 +19,19 @@ pub struct Shape {
 
 impl Model for Shape {
     ghost use Rattle.std.specs.Prelude.{List, ℕ, ◌≤◌, length};
+    ghost use Rattle.sh_base.specs.Shape.{max_rank};
 
     ghost Value = { List ℕ };
 
     ghost view = { λ s. s.extents.items };
 
-    ghost invariant = { λ s. length s.extents.items ≤ 6 };
+    ghost invariant = { λ s. length s.extents.items ≤ max_rank };
 }
 
 impl Shape {
     pub fn extents(&self) -> &[u64]
         ensures value { result.now ≡ self.now }
-        ensures short { length self.now ≤ 6 }
+        ensures short { length self.now ≤ max_rank }
     {
         self.extents.as_slice()
     }
@@ -38,15 +39,15 @@ impl Shape {
 
 /// How many cells a tensor of this shape has, unless they are too many.
 pub fn count(s: &Shape) -> Option<u64>
-    ensures some { IfSome result (λ n. (n ≡ cell_count s.now) × (n ≤ 1048576)) }
-    ensures none { IfNone result (1048576 < cell_count s.now) }
+    ensures some { IfSome result (λ n. (n ≡ cell_count s.now) × (n ≤ max_cells)) }
+    ensures none { IfNone result (max_cells < cell_count s.now) }
 {
     let mut total: u128 = 1;
     for extent in s.extents() {
         // A product that is too large stays so, unless a later extent is 0.
-        total = (total * u128::from(*extent)).min(1_048_577);
+        total = (total * u128::from(*extent)).min(u128::from(MAX_CELLS) + 1);
     }
-    if total > 1_048_576 {
+    if total > u128::from(MAX_CELLS) {
         return None;
     }
     Some(total as u64)
@@ -55,7 +56,7 @@ pub fn count(s: &Shape) -> Option<u64>
 /// The row-major number of an index.
 pub fn flat(s: &Shape, i: &Shape) -> u64
     requires within { IsIndexOf s.now i.now }
-    requires small { cell_count s.now ≤ 1048576 }
+    requires small { cell_count s.now ≤ max_cells }
     ensures value { result ≡ flat_of s.now i.now }
     ensures below { result < cell_count s.now }
     ensures inverse { unflat_of s.now result ≡ i.now }
@@ -71,7 +72,7 @@ pub fn flat(s: &Shape, i: &Shape) -> u64
 /// The index with this row-major number.
 pub fn unflat(alloc: Global, s: &Shape, k: u64) -> Shape
     requires below { k < cell_count s.now }
-    requires small { cell_count s.now ≤ 1048576 }
+    requires small { cell_count s.now ≤ max_cells }
     ensures value { result ≡ unflat_of s.now k }
     ensures within { IsIndexOf s.now result }
     ensures inverse { flat_of s.now result ≡ k }
