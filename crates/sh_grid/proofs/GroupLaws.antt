@@ -1,13 +1,14 @@
 -- Groups of devices along a list of axes: a place and its member, and that each device has one group.
-use Rattle.std.proofs.Common.{◌≡◌, ◌≢◌, ℕ, ◌+◌, ◌*◌, ◌<◌, List, [], ◌∷◌, length, get_or, set, refl, ap, ap₂, sym, ◌∙◌, arith, subst, inl, inr}
+use Rattle.std.proofs.Common.{◌≡◌, ◌≢◌, ◌↔◌, ℕ, ◌+◌, ◌*◌, ◌<◌, List, [], ◌∷◌, ◌++◌, length, get_or, set, refl, ap, ap₂, sym, ◌∙◌, arith, subst, inl, inr}
 use Rattle.std.specs.List.{fold}
 use Rattle.std.proofs.lemmas.Bool.{cases_eq}
-use Rattle.std.proofs.lemmas.List.{get_or-set_same, get_or-set_other, length-set, length-map, ext_get_or}
+use Rattle.std.proofs.lemmas.List.{get_or-set_same, get_or-set_other, length-set, length-map, map-append, ext_get_or}
+use Rattle.std.proofs.lemmas.List.Sums.{fold-append}
 use Rattle.std.proofs.lemmas.List.FromFn.{length-map-range_with_len, get_or-map-range_with_len}
 use Rattle.sh_base.specs.Shape.{cell_count, IsIndexOf, flat_of, unflat_of}
 use Rattle.sh_base.proofs.ShapeLaws.{flat_of-below, unflat_of-within, flat_of-unflat_of, unflat_of-flat_of}
 use Rattle.sh_base.proofs.IndexLaws.{length-unflat_of, IsIndexOf-entry, IsIndexOf-set_entry}
-use Rattle.sh_grid.specs.Grid.{IsNoneOf, AreAxesOf, on_axes, place_in, AgreeOutside, group_size_of, with_entries, member_of, group_of}
+use Rattle.sh_grid.specs.Grid.{IsNoneOf, AreAxesOf, on_axes, place_in, AgreeOutside, group_size_of, with_entries, member_of, group_of, AreApart, PlacesJoin, PlacesStay, AxesJoin}
 
 -- ---- entries on a list of axes
 
@@ -199,3 +200,41 @@ group_of-met s axes c d p q hc hd m lp lq e =
 pub group_of-nil : (s : List ℕ) (d : ℕ) → d < cell_count s → group_of s [] d ≡ d ∷ []
 unfolding group_of member_of group_size_of on_axes
 group_of-nil s d h = ap (λ c. c ∷ []) (flat_of-unflat_of s d h)
+
+-- ---- lists of axes, one after the other
+
+pub on_axes-append : (xs ys i : List ℕ) → on_axes (xs ++ ys) i ≡ on_axes xs i ++ on_axes ys i
+unfolding on_axes
+on_axes-append xs ys i = map-append (λ a. get_or i a 0) xs ys
+
+pub places_join : (s : List ℕ) → PlacesJoin s
+unfolding place_in group_size_of
+places_join s outer inner d =
+    let f : ℕ → ℕ → ℕ = λ place a. place * get_or s a 0 + get_or (unflat_of s d) a 0 in
+    let own = fold_is_flat s (unflat_of s d) inner 0 in
+    fold-append f 0 outer inner ∙ fold_is_flat s (unflat_of s d) inner (fold f 0 outer) ∙ rw own (omega arith)
+
+on_axes-stay : (s axes others : List ℕ) (c d : ℕ) → AreApart axes others → AgreeOutside s others c d
+    → on_axes axes (unflat_of s c) ≡ on_axes axes (unflat_of s d)
+unfolding on_axes AgreeOutside
+on_axes-stay s [] others c d apart agree = refl
+on_axes-stay s (a ∷ axes) others c d apart agree = ap₂ ◌∷◌ (agree a apart.0) (on_axes-stay s axes others c d apart.1 agree)
+
+pub places_stay : (s : List ℕ) → PlacesStay s
+places_stay s axes others c d apart agree =
+    place_in-flat_of s axes c ∙ ap (flat_of (on_axes axes s)) (on_axes-stay s axes others c d apart agree) ∙ sym (place_in-flat_of s axes d)
+
+is_none_of-append : (a : ℕ) (xs ys : List ℕ) → IsNoneOf a (xs ++ ys) ↔ (IsNoneOf a xs × IsNoneOf a ys)
+is_none_of-append a [] ys = (λ h. (tt, h), λ h. h.1)
+is_none_of-append a (x ∷ xs) ys =
+    let rec = is_none_of-append a xs ys in
+    (λ h. ((h.0, (rec.0 h.1).0), (rec.0 h.1).1), λ h. (h.0.0, rec.1 (h.0.1, h.1)))
+
+pub axes_join : (rank : ℕ) → AxesJoin rank
+axes_join rank [] inner = (λ h. (tt, tt, h), λ h. h.2)
+axes_join rank (a ∷ outer) inner =
+    let rec = axes_join rank outer inner in
+    let none = is_none_of-append a outer inner in (
+      λ h. ((h.0, (none.0 h.1).0, (rec.0 h.2).0), ((none.0 h.1).1, (rec.0 h.2).1), (rec.0 h.2).2),
+      λ h. (h.0.0, none.1 (h.0.1, h.1.0), rec.1 (h.0.2, h.1.1, h.2)),
+    )

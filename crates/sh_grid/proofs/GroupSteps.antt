@@ -7,7 +7,7 @@ use Rattle.std.proofs.Math.Nat.{mul-le-mul_left, mul-div_cancel_left}
 use Rattle.sh_base.specs.Shape.{cell_count, IsIndexOf, flat_of, unflat_of}
 use Rattle.sh_base.proofs.ShapeLaws.{cell_count-append, cell_count-take_more, flat_of-below, unflat_of-within, unflat_of-flat_of, flat_of-unflat_of}
 use Rattle.sh_base.proofs.IndexLaws.{cell_count-some, cell_count-drop_some, cell_count-drop_le, cell_count-front_le, IsIndexOf-set_entry, cell_count-split, cell_count-set, rest_some, flat_of-moved}
-use Rattle.sh_grid.specs.Grid.{IsGrid, IsNoneOf, AreAxesOf, on_axes, place_in, group_size_of, with_entries, member_of}
+use Rattle.sh_grid.specs.Grid.{max_devices, IsGrid, IsNoneOf, AreAxesOf, on_axes, place_in, group_size_of, with_entries, member_of}
 use Rattle.sh_grid.proofs.GroupLaws.{on_axes-set_other, place_in-below}
 
 -- ---- lists of axes
@@ -64,7 +64,7 @@ group_size_of-more s axes i l =
 -- one axis more in the size of a group
 pub record IsSizeStep (s axes : List ℕ) (i size : ℕ) : Type 0 where
   pub value : size * get_or s (get_or axes i 0) 0 ≡ group_size_of s (take (i + 1) axes)
-  pub few : size * get_or s (get_or axes i 0) 0 ≤ 1024
+  pub few : size * get_or s (get_or axes i 0) 0 ≤ max_devices
   pub axis : get_or axes i 0 < length s
 
 pub size_step : (s axes : List ℕ) (i size : ℕ) → IsGrid s → AreAxesOf (length s) axes → i < length axes → size ≡ group_size_of s (take i axes) → IsSizeStep s axes i size
@@ -90,7 +90,7 @@ place_in-more s axes d i l =
 -- one axis more in the place of a device
 pub record IsPlaceStep (s axes : List ℕ) (device i place : ℕ) : Type 0 where
   pub value : place * get_or s (get_or axes i 0) 0 + get_or (unflat_of s device) (get_or axes i 0) 0 ≡ place_in s (take (i + 1) axes) device
-  pub few : place * get_or s (get_or axes i 0) 0 + get_or (unflat_of s device) (get_or axes i 0) 0 < 1024
+  pub few : place * get_or s (get_or axes i 0) 0 + get_or (unflat_of s device) (get_or axes i 0) 0 < max_devices
   pub axis : get_or axes i 0 < length s
 
 pub place_step : (s axes : List ℕ) (device i place : ℕ) → IsGrid s → AreAxesOf (length s) axes → device < cell_count s → i < length axes
@@ -178,7 +178,7 @@ member_end s axes device place i size rest found le so_far =
 -- one extent more in a stride
 pub record IsStrideStep (s : List ℕ) (a i stride : ℕ) : Type 0 where
   pub value : stride * get_or (drop (a + 1) s) i 0 ≡ cell_count (take (i + 1) (drop (a + 1) s))
-  pub few : stride * get_or (drop (a + 1) s) i 0 ≤ 1024
+  pub few : stride * get_or (drop (a + 1) s) i 0 ≤ max_devices
 
 pub stride_step : (s : List ℕ) (a i stride : ℕ) → IsGrid s → i < length (drop (a + 1) s) → stride ≡ cell_count (take i (drop (a + 1) s)) → IsStrideStep s a i stride
 stride_step s a i stride g l e =
@@ -194,7 +194,7 @@ stride_step s a i stride g l e =
 pub record IsStride (s : List ℕ) (a stride : ℕ) : Type 0 where
   pub value : stride ≡ cell_count (drop (a + 1) s)
   pub some : 0 < stride
-  pub few : stride ≤ 1024
+  pub few : stride ≤ max_devices
 
 pub stride_end : (s : List ℕ) (a i stride : ℕ) → IsGrid s → length (drop (a + 1) s) ≤ i → stride ≡ cell_count (take i (drop (a + 1) s)) → IsStride s a stride
 stride_end s a i stride g le e =
@@ -227,7 +227,7 @@ moved_is s a device q stride own h l lt e f =
 
 pub record IsSize (s axes : List ℕ) (size : ℕ) : Type 0 where
   pub some : 0 < size
-  pub few : size ≤ 1024
+  pub few : size ≤ max_devices
 
 pub size_end : (s axes : List ℕ) (i size : ℕ) → IsGrid s → AreAxesOf (length s) axes → length axes ≤ i → size ≡ group_size_of s (take i axes) → IsSize s axes size
 size_end s axes i size g m le e =
@@ -238,7 +238,7 @@ size_end s axes i size g m le e =
     record { some = omega arith; few = omega arith }
 
 -- a coordinate is below the number of devices
-pub entry_below : (s : List ℕ) (a q : ℕ) → IsGrid s → a < length s → q < get_or s a 0 → q < 1024
+pub entry_below : (s : List ℕ) (a q : ℕ) → IsGrid s → a < length s → q < get_or s a 0 → q < max_devices
 entry_below s a q g l lt =
     let one = cell_count-front_le (drop a s) 1 (cell_count-drop_some s a (cell_count-some s g.positive)) in
     let less = cell_count-drop_le s a (cell_count-some s g.positive) in

@@ -1,5 +1,5 @@
 -- Grids of devices, and their groups along a list of axes.
-use Rattle.std.specs.Prelude.{◌≡◌, ◌≢◌, ℕ, ◌+◌, ◌*◌, ◌<◌, ◌≤◌, List, [], ◌∷◌, length, map, fold, set, slice_index, All}
+use Rattle.std.specs.Prelude.{◌≡◌, ◌≢◌, ◌↔◌, ℕ, ◌+◌, ◌*◌, ◌<◌, ◌≤◌, List, [], ◌∷◌, ◌++◌, length, map, fold, set, slice_index, All}
 use Rattle.std.specs.List.{range_with_len}
 use Rattle.sh_base.specs.Shape.{cell_count, flat_of, unflat_of}
 
@@ -9,17 +9,30 @@ pub record GridValue : Type 0 where
   pub name : List ℕ
   pub extents : List ℕ
 
+-- the greatest number of axes of a grid
+abbrev pub max_axes : ℕ
+max_axes = 4
+
+-- the greatest number of devices of a grid
+abbrev pub max_devices : ℕ
+max_devices = 1024
+
 -- one to four axes, none of extent 0, and at most 1,024 devices
 pub record IsGrid (extents : List ℕ) : Type 0 where
   pub some : 0 < length extents
-  pub few : length extents ≤ 4
+  pub few : length extents ≤ max_axes
   pub positive : All (λ n. 0 < n) extents
-  pub small : cell_count extents ≤ 1024
+  pub small : cell_count extents ≤ max_devices
 
 -- the axis isn't listed
 abbrev pub IsNoneOf : ℕ → List ℕ → Type 0
 IsNoneOf a [] = Unit {0}
 IsNoneOf a (b ∷ axes) = (a ≢ b) × IsNoneOf a axes
+
+-- none of the axes is listed in the second list
+abbrev pub AreApart : List ℕ → List ℕ → Type 0
+AreApart [] others = Unit {0}
+AreApart (a ∷ axes) others = IsNoneOf a others × AreApart axes others
 
 -- distinct axes of a grid of this rank
 abbrev pub AreAxesOf : ℕ → List ℕ → Type 0
@@ -59,3 +72,25 @@ member_of extents axes device place =
 -- The group of a device: the devices that agree with it outside the list, by rising place.
 unfoldable pub group_of : List ℕ → List ℕ → ℕ → List ℕ
 group_of extents axes device = map (λ place. member_of extents axes device place) (range_with_len 0 (group_size_of extents axes))
+
+-- ---- lists of axes, one after the other
+
+-- The place along two lists, one after the other, is the mixed-radix number of the places along each.
+abbrev pub PlacesJoin : List ℕ → Type 0
+PlacesJoin extents =
+    (outer inner : List ℕ) (device : ℕ)
+    → place_in extents (outer ++ inner) device
+    ≡ place_in extents outer device * group_size_of extents inner + place_in extents inner device
+
+-- A device's place along a list of axes stays where only coordinates on other axes change.
+abbrev pub PlacesStay : List ℕ → Type 0
+PlacesStay extents =
+    (axes others : List ℕ) (c device : ℕ) → AreApart axes others → AgreeOutside extents others c device
+    → place_in extents axes c ≡ place_in extents axes device
+
+-- The axes of two lists, one after the other, are distinct axes exactly where those of each are and
+-- none stands in both.
+abbrev pub AxesJoin : ℕ → Type 0
+AxesJoin rank =
+    (outer inner : List ℕ)
+    → AreAxesOf rank (outer ++ inner) ↔ (AreAxesOf rank outer × AreApart outer inner × AreAxesOf rank inner)

@@ -1,7 +1,7 @@
 ghost use Rattle.std.specs.Prelude.{◌≡◌, ◌<◌, ◌≤◌, ◌↔◌, IsTrue};
 ghost use Rattle.std.specs.Option.{SomeIff};
 ghost use Rattle.sh_base.specs.Shape.{cell_count, IsIndexOf, unflat_of};
-ghost use Rattle.sh_grid.specs.Grid.{IsGrid};
+ghost use Rattle.sh_grid.specs.Grid.{IsGrid, max_devices};
 
 use sh_base::{Duplicate, Mem, Same, Shape, Text, count, shape, unflat};
 use std::alloc::Global;
@@ -76,7 +76,7 @@ pub fn extents(g: &Grid) -> &Shape
 pub fn devices(g: &Grid) -> u64
     ensures value { result ≡ cell_count g.now.extents }
     ensures some { 0 < result }
-    ensures few { result ≤ 1024 }
+    ensures few { result ≤ max_devices }
 {
     count(&g.extents).unwrap()
 }

@@ -1,6 +1,6 @@
 ghost use Rattle.std.specs.Prelude.{◌≡◌, ℕ, ◌+◌, ◌<◌, ◌≤◌, IfOk, drop, length, set, slice_index};
 ghost use Rattle.sh_base.specs.Shape.{cell_count, unflat_of};
-ghost use Rattle.sh_grid.specs.Grid.{AgreeOutside, AreAxesOf, IsGrid, group_size_of, member_of, place_in};
+ghost use Rattle.sh_grid.specs.Grid.{AgreeOutside, AreAxesOf, IsGrid, group_size_of, member_of, place_in, max_devices};
 
 use crate::{Grid, extents};
 use sh_base::Shape;
@@ -11,7 +11,7 @@ fn stride_of(extents: &[u64], axis: u64) -> u64
     requires axis { axis < length extents.now }
     ensures value { result ≡ cell_count (drop (axis + 1) extents.now) }
     ensures some { 0 < result }
-    ensures few { result ≤ 1024 }
+    ensures few { result ≤ max_devices }
 {
     let mut stride = 1;
     for extent in &extents[axis as usize + 1..] {
@@ -50,7 +50,7 @@ pub fn group_size(g: &Grid, axes: &Shape) -> u64
     requires { AreAxesOf (length g.now.extents) axes.now }
     ensures value { result ≡ group_size_of g.now.extents axes.now }
     ensures some { 0 < result }
-    ensures few { result ≤ 1024 }
+    ensures few { result ≤ max_devices }
 {
     let extents = extents(g).extents();
     let mut size = 1;
