@@ -5,7 +5,7 @@ use Rattle.std.proofs.Math.Nat.{mul-le-mul_left, mul-le-mul_right, mul-div_cance
 use Rattle.sh_base.specs.declared.numbers.Cell.{Cell}
 use Rattle.sh_base.specs.declared.numbers.Cell.TheVariants.{Undef}
 use Rattle.sh_base.specs.declared.numbers.Width.{Width}
-use Rattle.sh_base.specs.Shape.{cell_count, IsIndexOf, flat_of}
+use Rattle.sh_base.specs.Shape.{cell_count, max_cells, IsIndexOf, flat_of}
 use Rattle.sh_base.proofs.ShapeLaws.{cell_count-take_more}
 use Rattle.sh_base.proofs.IndexLaws.{IsIndexOf-set, IsIndexOf-entry, flat_of-before_below, cell_count-split, cell_count-set, flat_of-split, flat_of-set, flat_of-after_below, take-set_same, drop-set_same, rest_some, cell_count-front_some, cell_count-front_le, extents_some}
 use Rattle.sh_tensor.specs.Tensor.{TensorValue, IsTensor, IsHeld, at, cells_of, slice_of}
@@ -113,9 +113,9 @@ at-slice_of t a start size i h = at-build (set t.shape a size) t.width (λ j. at
 
 pub record IsRowsStep (s : List ℕ) (a i rows : ℕ) : Type 0 where
   pub value : rows * get_or (take a s) i 0 ≡ cell_count (take (i + 1) (take a s))
-  pub few : rows * get_or (take a s) i 0 ≤ 1048576
+  pub few : rows * get_or (take a s) i 0 ≤ max_cells
 
-pub rows_step : (s : List ℕ) (a i rows : ℕ) → 0 < cell_count s → cell_count s ≤ 1048576 → i < length (take a s) → rows ≡ cell_count (take i (take a s)) → IsRowsStep s a i rows
+pub rows_step : (s : List ℕ) (a i rows : ℕ) → 0 < cell_count s → cell_count s ≤ max_cells → i < length (take a s) → rows ≡ cell_count (take i (take a s)) → IsRowsStep s a i rows
 rows_step s a i rows some small l e =
     let before = take a s in
     let value : rows * get_or before i 0 ≡ cell_count (take (i + 1) before) = rw e (sym (cell_count-take_more before i l)) in
@@ -126,9 +126,9 @@ rows_step s a i rows some small l e =
 pub record IsRowCount (s : List ℕ) (a rows : ℕ) : Type 0 where
   pub value : rows ≡ cell_count (take a s)
   pub some : 0 < rows
-  pub few : rows ≤ 1048576
+  pub few : rows ≤ max_cells
 
-pub rows_end : (s : List ℕ) (a i rows : ℕ) → 0 < cell_count s → cell_count s ≤ 1048576 → length (take a s) ≤ i → rows ≡ cell_count (take i (take a s)) → IsRowCount s a rows
+pub rows_end : (s : List ℕ) (a i rows : ℕ) → 0 < cell_count s → cell_count s ≤ max_cells → length (take a s) ≤ i → rows ≡ cell_count (take i (take a s)) → IsRowCount s a rows
 rows_end s a i rows some small le e =
     let whole : rows ≡ cell_count (take a s) = e ∙ ap cell_count (take_all i (take a s) le) in
     let front = cell_count-front_some s a some in

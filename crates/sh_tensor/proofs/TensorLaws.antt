@@ -7,7 +7,7 @@ use Rattle.sh_base.specs.Cells.{IsCellOf}
 use Rattle.sh_base.specs.declared.numbers.Cell.{Cell}
 use Rattle.sh_base.specs.declared.numbers.Cell.TheVariants.{Undef}
 use Rattle.sh_base.specs.declared.numbers.Width.{Width}
-use Rattle.sh_base.specs.Shape.{cell_count, IsIndexOf, flat_of, unflat_of}
+use Rattle.sh_base.specs.Shape.{cell_count, max_cells, IsIndexOf, flat_of, unflat_of}
 use Rattle.sh_base.proofs.ShapeLaws.{flat_of-below, unflat_of-flat_of, unflat_of-within, flat_of-unflat_of}
 use Rattle.sh_tensor.specs.Tensor.{TensorValue, IsTensor, IsHeld, at, cells_of, build, reshape_of}
 
@@ -75,7 +75,7 @@ IsTensor-reshape_of t s same h = record {
 
 -- ---- tensors in memory
 
-pub held : (s : List ℕ) (w : Width) (cells : List Cell) → length cells ≡ cell_count s → cell_count s ≤ 1048576 → All (IsCellOf w) cells
+pub held : (s : List ℕ) (w : Width) (cells : List Cell) → length cells ≡ cell_count s → cell_count s ≤ max_cells → All (IsCellOf w) cells
     → IsHeld (record { shape = s; width = w; cells = cells })
 unfolding at
 held s w cells counted small fitting = record {

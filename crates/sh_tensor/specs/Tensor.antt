@@ -6,7 +6,7 @@ use Rattle.sh_base.specs.declared.numbers.Cell.TheVariants.{Undef}
 use Rattle.sh_base.specs.declared.numbers.Width.{Width}
 use Rattle.sh_base.specs.declared.numbers.Width.TheVariants.{I1}
 use Rattle.sh_base.specs.Cells.{IsCellOf}
-use Rattle.sh_base.specs.Shape.{cell_count, IsIndexOf, flat_of, unflat_of}
+use Rattle.sh_base.specs.Shape.{cell_count, max_cells, IsIndexOf, flat_of, unflat_of}
 
 -- a tensor as contracts see it, its cells in row-major order
 pub record TensorValue : Type 0 where
@@ -26,7 +26,7 @@ pub record IsTensor (t : TensorValue) : Type 0 where
 -- what holds of a tensor in memory
 pub record IsHeld (t : TensorValue) : Type 0 where
   pub whole : IsTensor t
-  pub small : cell_count t.shape ≤ 1048576
+  pub small : cell_count t.shape ≤ max_cells
 
 -- the cells that f gives at the indices of a shape, in row-major order
 unfoldable pub cells_of : List ℕ → (List ℕ → Cell) → List Cell

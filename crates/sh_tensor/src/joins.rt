@@ -1,5 +1,5 @@
 ghost use Rattle.std.specs.Prelude.{◌≡◌, ◌++◌, ◌^◌, ◌<◌, ◌≤◌, All, IfOk, OnOk, length, set};
-ghost use Rattle.sh_base.specs.Shape.{cell_count};
+ghost use Rattle.sh_base.specs.Shape.{cell_count, max_cells};
 ghost use Rattle.sh_tensor.specs.Runs.{joined_row, joined_rows};
 ghost use Rattle.sh_tensor.specs.Tensor.{CanJoin, IsTensor, concat_of, joined_extent, joined_shape};
 
@@ -13,7 +13,7 @@ use std::alloc::Global;
 pub fn concat(alloc: Global, parts: &Vec<Tensor>, axis: u64) -> Result<Tensor, Mem>
     requires alike { CanJoin axis parts.now.items }
     requires extent { joined_extent axis parts.now.items < 2 ^ 64 }
-    requires small { cell_count (joined_shape axis parts.now.items) ≤ 1048576 }
+    requires small { cell_count (joined_shape axis parts.now.items) ≤ max_cells }
     ensures { IfOk result (λ joined. joined ≡ concat_of parts.now.items axis) }
 {
     let parts = parts.as_slice();
@@ -46,7 +46,7 @@ fn joined_cells(alloc: Global, parts: &[Tensor], shape: &Shape, axis: u64) -> Re
     requires alike { CanJoin axis parts.now }
     requires whole { All IsTensor parts.now }
     requires shape { shape.now ≡ joined_shape axis parts.now }
-    requires small { cell_count shape.now ≤ 1048576 }
+    requires small { cell_count shape.now ≤ max_cells }
     ensures { IfOk result (λ cells. cells.items ≡ (concat_of parts.now axis).cells) }
 {
     if is_empty(shape) {

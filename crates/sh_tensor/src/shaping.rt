@@ -1,5 +1,5 @@
 ghost use Rattle.std.specs.Prelude.{◌≡◌, ◌<◌, ◌≤◌, ◌↔◌, IsTrue, length, set, take};
-ghost use Rattle.sh_base.specs.Shape.{cell_count};
+ghost use Rattle.sh_base.specs.Shape.{cell_count, max_cells};
 
 use sh_base::{MAX_RANK, Shape, count, shape};
 use std::alloc::Global;
@@ -21,10 +21,10 @@ pub fn with_extent(alloc: Global, s: &Shape, axis: u64, extent: u64) -> Shape
 pub fn rows_before(s: &Shape, axis: u64) -> usize
     requires axis { axis < length s.now }
     requires some { 0 < cell_count s.now }
-    requires small { cell_count s.now ≤ 1048576 }
+    requires small { cell_count s.now ≤ max_cells }
     ensures value { result ≡ cell_count (take axis s.now) }
     ensures some { 0 < result }
-    ensures small { result ≤ 1048576 }
+    ensures small { result ≤ max_cells }
 {
     let mut rows = 1;
     for extent in &s.extents()[..axis as usize] {
@@ -35,7 +35,7 @@ pub fn rows_before(s: &Shape, axis: u64) -> usize
 
 /// Whether a tensor of this shape has no cell.
 pub fn is_empty(s: &Shape) -> bool
-    requires { cell_count s.now ≤ 1048576 }
+    requires { cell_count s.now ≤ max_cells }
     ensures { IsTrue result ↔ (cell_count s.now ≡ 0) }
 {
     count(s) == Some(0)

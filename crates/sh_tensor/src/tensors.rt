@@ -1,6 +1,6 @@
 ghost use Rattle.std.specs.Prelude.{◌≡◌, ◌≤◌, All, IfOk, length};
 ghost use Rattle.sh_base.specs.Cells.{IsCellOf};
-ghost use Rattle.sh_base.specs.Shape.{cell_count, IsIndexOf};
+ghost use Rattle.sh_base.specs.Shape.{cell_count, max_cells, IsIndexOf};
 ghost use Rattle.sh_tensor.specs.Tensor.{IsTensor, at, reshape_of};
 
 use sh_base::{Cell, Duplicate, Mem, Shape, Width, flat, shape};
@@ -30,7 +30,7 @@ impl Tensor {
     pub fn shape(&self) -> &Shape
         ensures value { result.now ≡ self.now.shape }
         ensures whole { IsTensor self.now }
-        ensures small { cell_count self.now.shape ≤ 1048576 }
+        ensures small { cell_count self.now.shape ≤ max_cells }
     {
         &self.shape
     }
@@ -64,7 +64,7 @@ impl Tensor {
 /// indices. It takes no memory.
 pub fn build(s: Shape, w: Width, cells: Vec<Cell>) -> Tensor
     requires counted { length cells.items ≡ cell_count s }
-    requires small { cell_count s ≤ 1048576 }
+    requires small { cell_count s ≤ max_cells }
     requires fitting { All (IsCellOf w) cells.items }
     ensures { result ≡ record { shape = s; width = w; cells = cells.items } }
 {

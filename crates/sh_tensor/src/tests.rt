@@ -1,5 +1,5 @@
 ghost use Rattle.std.specs.Prelude.{◌≡◌, ◌+◌, ◌^◌, ◌<◌, ◌≤◌, [], ◌∷◌, IfOk, length, set, slice_index};
-ghost use Rattle.sh_base.specs.Shape.{cell_count};
+ghost use Rattle.sh_base.specs.Shape.{cell_count, max_cells};
 ghost use Rattle.sh_tensor.specs.Tensor.{IsLike, joined_extent, joined_shape};
 
 use crate::{Tensor, build, concat, copy, reshape, slice};
@@ -10,7 +10,7 @@ use std::test::Fail;
 // The tensor of these extents whose cells count up from 0.
 fn counting(alloc: Global, extents: &[u64]) -> Result<Tensor, Fail>
     requires few { length extents.now ≤ 6 }
-    requires small { cell_count extents.now ≤ 1048576 }
+    requires small { cell_count extents.now ≤ max_cells }
     ensures shape { IfOk result (λ t. t.shape ≡ extents.now) }
     ensures width { IfOk result (λ t. t.width ≡ Width.I64) }
 {
@@ -43,7 +43,7 @@ fn sliced(
     size: u64,
 ) -> Result<Vec<u64>, Fail>
     requires few { length extents.now ≤ 6 }
-    requires small { cell_count extents.now ≤ 1048576 }
+    requires small { cell_count extents.now ≤ max_cells }
     requires axis { axis < length extents.now }
     requires within { start + size ≤ slice_index extents.now axis }
 {
@@ -57,7 +57,7 @@ fn pair(alloc: Global, first: Tensor, second: Tensor, axis: u64) -> Result<Tenso
     requires axis { axis < length first.shape }
     requires alike { IsLike axis first second }
     requires extent { joined_extent axis (first ∷ second ∷ []) < 2 ^ 64 }
-    requires small { cell_count (joined_shape axis (first ∷ second ∷ [])) ≤ 1048576 }
+    requires small { cell_count (joined_shape axis (first ∷ second ∷ [])) ≤ max_cells }
 {
     let mut parts = Vec::with_capacity(alloc, 2)?;
     parts.push(first)?;
@@ -68,13 +68,13 @@ fn pair(alloc: Global, first: Tensor, second: Tensor, axis: u64) -> Result<Tenso
 fn joined(alloc: Global, first: &[u64], second: &[u64], axis: u64) -> Result<Vec<u64>, Fail>
     requires few { length first.now ≤ 6 }
     requires few_too { length second.now ≤ 6 }
-    requires small { cell_count first.now ≤ 1048576 }
-    requires small_too { cell_count second.now ≤ 1048576 }
+    requires small { cell_count first.now ≤ max_cells }
+    requires small_too { cell_count second.now ≤ max_cells }
     requires axis { axis < length first.now }
     requires axis_too { axis < length second.now }
     requires alike { set second.now axis 0 ≡ set first.now axis 0 }
     requires extent { slice_index first.now axis + (slice_index second.now axis + 0) < 2 ^ 64 }
-    requires whole { cell_count (set first.now axis (slice_index first.now axis + (slice_index second.now axis + 0))) ≤ 1048576 }
+    requires whole { cell_count (set first.now axis (slice_index first.now axis + (slice_index second.now axis + 0))) ≤ max_cells }
 {
     let left = counting(alloc, first)?;
     let right = counting(alloc, second)?;
@@ -85,7 +85,7 @@ fn joined(alloc: Global, first: &[u64], second: &[u64], axis: u64) -> Result<Vec
 // Whether a tensor that is cut in two along an axis and joined again is what it was.
 fn is_rejoined(alloc: Global, extents: &[u64], axis: u64, at: u64) -> Result<bool, Fail>
     requires few { length extents.now ≤ 6 }
-    requires small { cell_count extents.now ≤ 1048576 }
+    requires small { cell_count extents.now ≤ max_cells }
     requires axis { axis < length extents.now }
     requires within { at ≤ slice_index extents.now axis }
 {

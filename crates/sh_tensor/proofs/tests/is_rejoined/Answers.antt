@@ -1,6 +1,6 @@
 use Rattle.std.proofs.Common.{◌≡◌, ◌<◌, ◌≤◌, ◌+◌, ◌-◌, ℕ, List, get_or, length, set, ap, ap₂, ◌∙◌, sym, subst, arith}
 use Rattle.std.proofs.lemmas.List.{set-set, set-get_or, get_or-set_same, length-set}
-use Rattle.sh_base.specs.Shape.{cell_count}
+use Rattle.sh_base.specs.Shape.{cell_count, max_cells}
 use Rattle.sh_tensor.specs.Tensor.{TensorValue, IsLike, extent, slice_of}
 use Rattle.sh_tensor.proofs.tests.is_rejoined.Goals as goal
 
@@ -45,4 +45,4 @@ pair-requires-clause-extent c =
 pub pair-requires-clause-small : goal.pair-requires-clause-small
 pair-requires-clause-small c =
     let parts = halves c.args.extents.now c.in_ok-whole.whole c.in_ok-left.left c.in_ok-right.right c.args.axis c.args.at c.in_ok-whole.ensures.shape c.in_ok-left.ensures c.in_ok-right.ensures c.requires.axis c.requires.within in
-    subst (λ s. cell_count s ≤ 1048576) (sym (ap (set c.in_ok-left.left.shape c.args.axis) parts.total ∙ parts.whole)) c.requires.small
+    subst (λ s. cell_count s ≤ max_cells) (sym (ap (set c.in_ok-left.left.shape c.args.axis) parts.total ∙ parts.whole)) c.requires.small

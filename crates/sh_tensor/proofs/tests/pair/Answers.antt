@@ -1,5 +1,5 @@
 use Rattle.std.proofs.Common.{◌≡◌, ◌<◌, ◌≤◌, ◌^◌, List, [], ◌∷◌, ◌++◌, ap, ◌∙◌, sym, subst, refl}
-use Rattle.sh_base.specs.Shape.{cell_count}
+use Rattle.sh_base.specs.Shape.{cell_count, max_cells}
 use Rattle.sh_tensor.specs.Tensor.{TensorValue, CanJoin, joined_extent, joined_shape}
 use Rattle.sh_tensor.proofs.tests.pair.Goals as goal
 
@@ -18,5 +18,5 @@ concat-requires-clause-extent c =
 
 pub concat-requires-clause-small : goal.concat-requires-clause-small
 concat-requires-clause-small c =
-    subst (λ (ts : List TensorValue). cell_count (joined_shape c.args.axis ts) ≤ 1048576) (pushed c.in_ok-parts.parts.items c.push.new.self.items c.push-2.new.self.items c.args.first c.args.second c.in_ok-parts.ensures.items c.in_ok-push.ensures.items c.in_ok-push-2.ensures.items)
+    subst (λ (ts : List TensorValue). cell_count (joined_shape c.args.axis ts) ≤ max_cells) (pushed c.in_ok-parts.parts.items c.push.new.self.items c.push-2.new.self.items c.args.first c.args.second c.in_ok-parts.ensures.items c.in_ok-push.ensures.items c.in_ok-push-2.ensures.items)
     c.requires.small
