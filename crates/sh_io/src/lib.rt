@@ -12,7 +12,7 @@ mod writing;
 pub use ends::{Failed, Sink, Source};
 pub use memory_sink::{MemSink, mem_sink};
 pub use memory_source::{MemSource, mem_source};
-pub use reading::{ReadEnd, read_all};
+pub use reading::{MAX_BYTES, ReadEnd, read_all};
 pub use standard::{StdSink, StdSource};
 pub use writing::{WriteFault, write_text};
 
@@ -29,6 +29,16 @@ mod tests {
             let mut src = mem_source(b"hello".to_vec(alloc)?, per_call, Vec::new(alloc));
             assert_eq!(rt; read_all(alloc, &mut src)?.as_slice(), b"hello".as_slice());
         }
+        Ok(())
+    }
+
+    #[test]
+    fn no_more_is_read_than_shows_the_length(rt: HostRuntime) -> Result<(), Fail> {
+        let alloc = rt.alloc();
+        let bytes = vec![in alloc; b' '; MAX_BYTES + 3]?;
+        let mut src = mem_source(bytes, u64::MAX, Vec::new(alloc));
+        assert_eq!(rt; read_all(alloc, &mut src).err(), Some(ReadEnd::TooLong));
+        assert_eq!(rt; read_all(alloc, &mut src)?.as_slice(), b"  ".as_slice());
         Ok(())
     }
 

@@ -8,7 +8,7 @@ use std::alloc::{AllocError, Global};
 use thiserror::Error;
 
 /// The most bytes of an input.
-const MOST: usize = 16_777_216;
+pub const MAX_BYTES: usize = 16_777_216;
 
 /// How many bytes one read asks for at most.
 const PIECE: usize = 65_536;
@@ -58,8 +58,8 @@ fn read_some<S: Source>(src: &mut S, buf: &mut [u8], most: usize) -> Result<usiz
 }
 
 /// Reads to the end of the source: all that it held. `TooLong` is answered exactly where 16,777,217
-/// bytes were read, `Fault` only where the source failed in this call. What was read before a refusal
-/// is gone.
+/// bytes were read, and no more are read in any case; `Fault` only where the source failed in this call.
+/// What was read before a refusal is gone.
 pub fn read_all<S: Source>(alloc: Global, src: &mut S) -> Result<Vec<u8>, ReadEnd>
     ensures all { ReadsAll (S.left src.old) (S.left src.new) result }
     ensures later { S.faults src.old ≤ S.faults src.new }
@@ -69,12 +69,12 @@ pub fn read_all<S: Source>(alloc: Global, src: &mut S) -> Result<Vec<u8>, ReadEn
     let mut buf = [0u8; PIECE];
     'pieces: loop {
         // One byte more than the most, so that too long a text shows.
-        let room = (MOST + 1 - bytes.len()).min(PIECE);
+        let room = (MAX_BYTES + 1 - bytes.len()).min(PIECE);
         let n = read_some(src, &mut buf, room)?;
         if n == 0 {
             return Ok(bytes);
         }
-        if bytes.len() + n > MOST {
+        if bytes.len() + n > MAX_BYTES {
             return Err(ReadEnd::TooLong);
         }
         bytes.extend_from_slice(&buf[..n])?;
