@@ -1,7 +1,7 @@
 -- What kinds of operations there are.
-use Rattle.std.specs.Prelude.{◌≡◌, ◌≢◌, ◌⊎◌}
+use Rattle.std.specs.Prelude.{◌≡◌, ◌≢◌, ◌⊎◌, Bool, true, false}
 use Rattle.sh_ir.specs.declared.operations.OpKind.{OpKind}
-use Rattle.sh_ir.specs.declared.operations.OpKind.TheVariants.{Constant, Binary, Compare, Select, Cast, Empty, ExtractSlice, InsertSlice, CollapseShape, ExpandShape, Fill, Matmul, BatchMatmul, Matvec, Vecmat, Dot, Conv1d, Conv2d, Transpose, Broadcast, Reduce, Generic, Sharding, Shard, AllGather, AllSlice, AllReduce, ReduceScatter, AllToAll, Shift, UpdateHalo, Take, Pad, Join, Return}
+use Rattle.sh_ir.specs.declared.operations.OpKind.TheVariants.{Constant, Binary, Compare, Select, Cast, Empty, ExtractSlice, InsertSlice, CollapseShape, ExpandShape, Fill, Matmul, BatchMatmul, Matvec, Vecmat, Dot, Conv1d, Conv2d, Transpose, Broadcast, Reduce, Generic, Sharding, Shard, AllGather, AllSlice, AllReduce, ReduceScatter, AllToAll, Shift, UpdateHalo, Take, Pad, Join, Call, Return}
 use Rattle.sh_ir.specs.declared.classification.OpClass.{OpClass}
 use Rattle.sh_ir.specs.declared.classification.OpClass.TheVariants as class
 
@@ -31,24 +31,25 @@ class_of (Generic x) = class.Structured
 class_of (Sharding x) = class.Sharding
 class_of (Shard x) = class.Note
 class_of (AllGather x) = class.Collective
-class_of (AllSlice x) = class.Local
+class_of (AllSlice x) = class.DeviceLayout
 class_of (AllReduce x) = class.Collective
 class_of (ReduceScatter x) = class.Collective
 class_of (AllToAll x) = class.Collective
 class_of (Shift x) = class.Collective
 class_of (UpdateHalo x) = class.Collective
-class_of (Take x) = class.Local
-class_of (Pad x) = class.Local
-class_of (Join x) = class.Local
+class_of (Take x) = class.DeviceLayout
+class_of (Pad x) = class.DeviceLayout
+class_of (Join x) = class.DeviceLayout
+class_of (Call x) = class.Call
 class_of (Return x) = class.Return
 
 -- the devices of a group do it together
 abbrev pub IsCollective : OpKind → Type 0
 IsCollective kind = class_of kind ≡ class.Collective
 
--- an instruction of device form that a device does alone
-abbrev pub IsLocal : OpKind → Type 0
-IsLocal kind = class_of kind ≡ class.Local
+-- a slice, a padding or a join of device form, which a device does alone
+abbrev pub IsDeviceLayout : OpKind → Type 0
+IsDeviceLayout kind = class_of kind ≡ class.DeviceLayout
 
 -- it makes a value from nothing
 abbrev pub IsCreator : OpKind → Type 0
@@ -60,3 +61,20 @@ IsAnnotation kind = (class_of kind ≡ class.Sharding) ⊎ (class_of kind ≡ cl
 
 abbrev pub DefinesValue : OpKind → Type 0
 DefinesValue kind = class_of kind ≢ class.Return
+
+-- it is the return, which ends a function
+abbrev pub is_return_class : OpClass → Bool
+is_return_class class.Creator = false
+is_return_class class.Element = false
+is_return_class class.Layout = false
+is_return_class class.Structured = false
+is_return_class class.Convolution = false
+is_return_class class.Sharding = false
+is_return_class class.Note = false
+is_return_class class.DeviceLayout = false
+is_return_class class.Collective = false
+is_return_class class.Call = false
+is_return_class class.Return = true
+
+abbrev pub is_return : OpKind → Bool
+is_return kind = is_return_class (class_of kind)

@@ -8,8 +8,10 @@ use Rattle.sh_base.specs.declared.numbers.Cell.{Cell}
 use Rattle.sh_base.specs.declared.numbers.Cell.TheVariants.{Undef, Val}
 use Rattle.sh_ir.specs.declared.types.Dim.{Dim}
 use Rattle.sh_ir.specs.declared.types.Dim.TheVariants.{Known, Differs}
-use Rattle.sh_ir.specs.declared.types.ValueType.TheVariants.{Nothing, Scalar, Tensor, Sharding}
+use Rattle.sh_ir.specs.declared.types.ValueType.{ValueType}
+use Rattle.sh_ir.specs.declared.types.ValueType.TheVariants.{Nothing, Scalar, Tensor, Sharding, Index}
 use Rattle.sh_ir.specs.declared.arith_ops.Constant.{Constant}
+use Rattle.sh_ir.specs.declared.arith_ops.Contents.{Contents}
 use Rattle.sh_ir.specs.declared.arith_ops.Contents.TheVariants.{Held, Broken}
 
 -- a number of the width; no literal writes an undefined cell
@@ -36,14 +38,39 @@ abbrev pub are_equal : List Cell → Bool
 are_equal [] = true
 are_equal (c ∷ cs) = list_all (same_cell c) cs
 
--- no cell where an extent is 0; else one cell that fills the tensor, or all cells where they differ
+-- one cell that fills the tensor, or all cells where they differ
+abbrev pub are_short : List Dim → List Cell → Bool
+are_short dims cells =
+    nat_eq (length cells) 1
+    || (option_map_or (nat_eq (length cells)) (known_count dims) false && not (are_equal cells))
+
+-- no cell where an extent is 0
 abbrev pub fills : List Dim → List Cell → Bool
-fills dims cells = if list_any is_zero dims then nat_eq (length cells) 0 else (nat_eq (length cells) 1 || (option_map_or (nat_eq (length cells)) (known_count dims) false && not (are_equal cells)))
+fills dims cells =
+    if list_any is_zero dims then nat_eq (length cells) 0 else are_short dims cells
 
--- whether the contents are held as a literal's of this type are
+-- whether these cells are held as those of a literal of this type are
+abbrev pub are_held : ValueType → List Cell → Bool
+are_held (Scalar w) cells = nat_eq (length cells) 1 && list_all (is_literal_cell w) cells
+are_held (Tensor t) cells = fills t.dims cells && list_all (is_literal_cell t.width) cells
+are_held Nothing cells = false
+are_held Sharding cells = false
+are_held Index cells = false
+
 abbrev pub is_held : Constant → Bool
-is_held c = elim c.contents [ Broken ↦ true | Held cells ↦ elim c.value_type [ Scalar w ↦ nat_eq (length cells) 1 && list_all (is_literal_cell w) cells | Tensor t ↦ fills t.dims cells && list_all (is_literal_cell t.width) cells | Nothing ↦ false | Sharding ↦ false ] ]
+is_held c = elim c.contents [ Broken ↦ true | Held cells ↦ are_held c.value_type cells ]
 
--- whether it can be written `dense<..>`: such a literal of a scalar type is broken
+abbrev pub is_broken : Contents → Bool
+is_broken Broken = true
+is_broken (Held cells) = false
+
+-- whether a literal of this type can be written `dense<..>`; that of a scalar type is broken
+abbrev pub can_be_dense : ValueType → Contents → Bool
+can_be_dense (Tensor t) contents = true
+can_be_dense (Scalar w) contents = is_broken contents
+can_be_dense Nothing contents = false
+can_be_dense Sharding contents = false
+can_be_dense Index contents = false
+
 abbrev pub is_dense : Constant → Bool
-is_dense c = elim c.value_type [ Scalar w ↦ elim c.contents [ Broken ↦ true | Held cells ↦ false ] | _ ↦ true ]
+is_dense c = can_be_dense c.value_type c.contents

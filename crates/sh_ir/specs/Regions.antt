@@ -10,7 +10,8 @@ is_among names name = list_any (nat_eq name) names
 -- each once, by first occurrence
 abbrev pub first_occurrences : List ℕ → List ℕ
 first_occurrences [] = []
-first_occurrences (name ∷ names) = name ∷ filter (λ other. not (nat_eq name other)) (first_occurrences names)
+first_occurrences (name ∷ names) =
+    name ∷ filter (λ other. not (nat_eq name other)) (first_occurrences names)
 
 abbrev pub outside : List ℕ → List ℕ → List ℕ
 outside own names = filter (λ name. not (is_among own name)) names
@@ -18,7 +19,8 @@ outside own names = filter (λ name. not (is_among own name)) names
 -- what the operations and the yield use that isn't the body's own by then
 abbrev pub outer_uses : List ℕ → List BodyOp → ℕ → List ℕ
 outer_uses own [] yields = outside own (yields ∷ [])
-outer_uses own (op ∷ ops) yields = outside own op.operands ++ outer_uses (op.defines ∷ own) ops yields
+outer_uses own (op ∷ ops) yields =
+    outside own op.operands ++ outer_uses (op.defines ∷ own) ops yields
 
 -- the names of the function that a body uses, each once, by first use
 abbrev pub captured_by : Body → List ℕ

@@ -1,164 +1,177 @@
--- What the text of an operation writes, kind by kind: counts, grids, numbers, types.
-use Rattle.std.specs.Prelude.{ℕ, ◌+◌, ℤ, pos, List, [], ◌∷◌, ◌++◌, Option, Some, None, flat_map}
-use Rattle.std.specs.Option.{option_map_or}
+-- What the text of an operation writes, one line a kind. A new kind is asked everything here.
+use Rattle.std.specs.Prelude.{ℕ, ◌+◌, ℤ, pos, List, [], ◌∷◌, ◌++◌, Option, Some, None, Bool, true, false, flat_map}
 use Rattle.sh_base.specs.declared.numbers.Width.TheVariants.{I1}
 use Rattle.sh_ir.specs.declared.types.RawSharding.{RawSharding}
 use Rattle.sh_ir.specs.declared.types.ValueType.{ValueType}
 use Rattle.sh_ir.specs.declared.types.ValueType.TheVariants as value_type
+use Rattle.sh_ir.specs.declared.arith_ops.Constant as declared_constant
+use Rattle.sh_ir.specs.declared.linalg_ops.AffineMap.{AffineMap}
 use Rattle.sh_ir.specs.declared.linalg_ops.InsOuts.{InsOuts}
+use Rattle.sh_ir.specs.declared.shard_ops.GridAxes.{GridAxes}
+use Rattle.sh_ir.specs.declared.tensor_ops.Slice.{Slice}
 use Rattle.sh_ir.specs.declared.bodies.Body.{Body}
 use Rattle.sh_ir.specs.declared.bodies.BodyKind.{BodyKind}
 use Rattle.sh_ir.specs.declared.bodies.BodyKind.TheVariants as body_kind
 use Rattle.sh_ir.specs.declared.operations.OpKind.{OpKind}
-use Rattle.sh_ir.specs.declared.operations.OpKind.TheVariants.{Constant, Binary, Compare, Select, Cast, Empty, ExtractSlice, InsertSlice, CollapseShape, ExpandShape, Fill, Matmul, BatchMatmul, Matvec, Vecmat, Dot, Conv1d, Conv2d, Transpose, Broadcast, Reduce, Generic, Sharding, Shard, AllGather, AllSlice, AllReduce, ReduceScatter, AllToAll, Shift, UpdateHalo, Take, Pad, Join, Return}
+use Rattle.sh_ir.specs.declared.operations.OpKind.TheVariants.{Constant, Binary, Compare, Select, Cast, Empty, ExtractSlice, InsertSlice, CollapseShape, ExpandShape, Fill, Matmul, BatchMatmul, Matvec, Vecmat, Dot, Conv1d, Conv2d, Transpose, Broadcast, Reduce, Generic, Sharding, Shard, AllGather, AllSlice, AllReduce, ReduceScatter, AllToAll, Shift, UpdateHalo, Take, Pad, Join, Call, Return}
 
--- what `ins` and `outs` write, where the form has them
-abbrev pub ins_outs_of : OpKind → Option InsOuts
-ins_outs_of (Fill x) = Some x
-ins_outs_of (Matmul x) = Some x
-ins_outs_of (BatchMatmul x) = Some x
-ins_outs_of (Matvec x) = Some x
-ins_outs_of (Vecmat x) = Some x
-ins_outs_of (Dot x) = Some x
-ins_outs_of (Conv1d x) = Some x
-ins_outs_of (Conv2d x) = Some x
-ins_outs_of (Transpose x) = Some x.ins_outs
-ins_outs_of (Broadcast x) = Some x.ins_outs
-ins_outs_of (Reduce x) = Some x.ins_outs
-ins_outs_of (Generic x) = Some x.ins_outs
-ins_outs_of _ = None
+-- How the text gives the type of the value.
+pub data ResultText : Type 0 where
+  a_type : ResultText  -- it writes a type
+  a_width : ResultText  -- it writes the width of a scalar
+  unwritten : ValueType → ResultText  -- it writes none: the type is this one
 
--- the region, where the form has one
-abbrev pub body_of : OpKind → Option Body
-body_of (Reduce x) = Some x.body
-body_of (Generic x) = Some x.body
-body_of _ = None
+-- What the text of an operation writes.
+pub record Written : Type 0 where
+  pub operands : Option ℕ  -- how many, where the form leaves no choice
+  pub grids : List (List ℕ)  -- the names of grids
+  pub callees : List (List ℕ)  -- the names of functions
+  pub numbers : List ℤ  -- those outside of types and literals
+  pub types : List ValueType  -- those besides the type of the value
+  pub result : ResultText
+  pub constants : List declared_constant.Constant
+  pub maps : List AffineMap
+  pub body : Option Body  -- the region
+  pub has_indices : Bool  -- whether the region may ask for loop indices
 
--- the number of written operands of a form without `ins` and `outs`, where it is fixed
-abbrev pub plain_count : OpKind → Option ℕ
-plain_count (Constant x) = Some 0
-plain_count Empty = Some 0
-plain_count (Sharding x) = Some 0
-plain_count (Binary x) = Some 2
-plain_count (Compare x) = Some 2
-plain_count (InsertSlice x) = Some 2
-plain_count (Shard x) = Some 2
-plain_count (Select x) = Some 3
-plain_count (Join x) = None
-plain_count (Return x) = None
-plain_count _ = Some 1
+-- ---- what several forms share
 
--- the number of written operands, where the form, `ins` and `outs` leave no choice
-abbrev pub operand_count : OpKind → Option ℕ
-operand_count kind = option_map_or (λ x. Some (x.ins_count + x.outs_count)) (ins_outs_of kind) (plain_count kind)
+-- this many operands and the type of the value, and nothing else
+abbrev pub plain : ℕ → Written
+plain count = record {
+  operands = Some count;
+  grids = [];
+  callees = [];
+  numbers = [];
+  types = [];
+  result = a_type;
+  constants = [];
+  maps = [];
+  body = None;
+  has_indices = false;
+}
 
--- the grids that are named
-abbrev pub grids_in : OpKind → List (List ℕ)
-grids_in (Sharding x) = x.grid ∷ []
-grids_in (AllGather x) = x.on.grid ∷ []
-grids_in (AllSlice x) = x.on.grid ∷ []
-grids_in (AllReduce x) = x.on.grid ∷ []
-grids_in (ReduceScatter x) = x.on.grid ∷ []
-grids_in (AllToAll x) = x.on.grid ∷ []
-grids_in (Shift x) = x.on.grid ∷ []
-grids_in (UpdateHalo x) = x.grid ∷ []
-grids_in (Take x) = x.on.grid ∷ []
-grids_in _ = []
+-- one operand with its type
+abbrev pub typed : ValueType → Written
+typed t = record (plain 1) { types = t ∷ [] }
 
--- the numbers of a list of lists
-abbrev pub flat : List (List ℤ) → List ℤ
-flat lists = flat_map (λ list. list) lists
+-- any number of operands, and types of their own number
+abbrev pub any_count : List ValueType → Written
+any_count types = record (plain 0) { operands = None; types = types }
 
--- the numbers that a sharding writes
-abbrev pub sharding_numbers : RawSharding → List ℤ
-sharding_numbers x = flat x.split ++ x.halos ++ x.offsets
-
--- the numbers that are written outside of types and literals
-abbrev pub numbers_in : OpKind → List ℤ
-numbers_in (ExtractSlice x) = x.slice.offsets ++ x.slice.sizes ++ x.slice.strides
-numbers_in (InsertSlice x) = x.slice.offsets ++ x.slice.sizes ++ x.slice.strides
-numbers_in (CollapseShape x) = flat x.reassociation
-numbers_in (ExpandShape x) = flat x.reassociation ++ x.output_shape
-numbers_in (Transpose x) = x.permutation
-numbers_in (Broadcast x) = x.dimensions
-numbers_in (Reduce x) = x.dimensions
-numbers_in (Sharding x) = sharding_numbers x
-numbers_in (AllGather x) = x.on.grid_axes ++ pos x.gather_axis ∷ []
-numbers_in (AllSlice x) = x.on.grid_axes ++ pos x.slice_axis ∷ []
-numbers_in (AllReduce x) = x.on.grid_axes
-numbers_in (ReduceScatter x) = x.on.grid_axes ++ pos x.scatter_axis ∷ []
-numbers_in (AllToAll x) = x.on.grid_axes ++ pos x.split_axis ∷ pos x.concat_axis ∷ []
-numbers_in (Shift x) = x.on.grid_axes ++ pos x.shift_axis ∷ x.offset ∷ []
-numbers_in (UpdateHalo x) = flat x.split_axes ++ x.halo_sizes
-numbers_in (Take x) = x.on.grid_axes ++ (pos x.axis ∷ x.starts) ++ x.sizes
-numbers_in (Pad x) = x.low ++ x.high
-numbers_in (Join x) = pos x.axis ∷ []
-numbers_in _ = []
-
--- the types that a form without `ins` and `outs` writes, besides that of the value
-abbrev pub plain_types : OpKind → List ValueType
-plain_types (Constant x) = x.value_type ∷ []
-plain_types (Compare x) = x.operand_type ∷ []
-plain_types (Select x) = x.condition_type ∷ []
-plain_types (Cast x) = x.operand_type ∷ []
-plain_types (ExtractSlice x) = x.source_type ∷ []
-plain_types (InsertSlice x) = x.source_type ∷ []
-plain_types (CollapseShape x) = x.source_type ∷ []
-plain_types (ExpandShape x) = x.source_type ∷ []
-plain_types (AllGather x) = x.operand_type ∷ []
-plain_types (AllSlice x) = x.operand_type ∷ []
-plain_types (AllReduce x) = x.operand_type ∷ []
-plain_types (ReduceScatter x) = x.operand_type ∷ []
-plain_types (AllToAll x) = x.operand_type ∷ []
-plain_types (Shift x) = x.operand_type ∷ []
-plain_types (Take x) = x.operand_type ∷ []
-plain_types (Pad x) = x.operand_type ∷ []
-plain_types (Join x) = x.operand_types
-plain_types (Return x) = x.operand_types
-plain_types _ = []
-
--- the types that are written, besides that of the value
-abbrev pub types_in : OpKind → List ValueType
-types_in kind = option_map_or (λ x. x.ins_types ++ x.outs_types) (ins_outs_of kind) (plain_types kind)
+abbrev pub literal : declared_constant.Constant → Written
+literal c = record (plain 0) {
+  types = c.value_type ∷ [];
+  result = unwritten c.value_type;
+  constants = c ∷ [];
+}
 
 -- the type of a test of values of this type: `i1` in the same shape
 abbrev pub test_type : ValueType → ValueType
 test_type (value_type.Scalar w) = value_type.Scalar I1
 test_type (value_type.Tensor t) = value_type.Tensor (record t { width = I1 })
-test_type t = t
+test_type value_type.Nothing = value_type.Nothing
+test_type value_type.Sharding = value_type.Sharding
+test_type value_type.Index = value_type.Index
+
+abbrev pub comparison : ValueType → Written
+comparison t = record (plain 2) { types = t ∷ []; result = unwritten (test_type t) }
+
+abbrev pub selection : ValueType → Written
+selection condition = record (plain 3) { types = condition ∷ [] }
+
+abbrev pub slice_numbers : Slice → List ℤ
+slice_numbers x = x.offsets ++ x.sizes ++ x.strides
+
+-- the numbers of a list of lists
+abbrev pub all_numbers : List (List ℤ) → List ℤ
+all_numbers lists = flat_map (λ list. list) lists
+
+-- the numbers that a sharding writes
+abbrev pub sharding_numbers : RawSharding → List ℤ
+sharding_numbers x = all_numbers x.split ++ x.halos ++ x.offsets
 
 -- the first type, if there is one
 abbrev pub first_type : List ValueType → ValueType
 first_type [] = value_type.Nothing
 first_type (t ∷ ts) = t
 
--- the type of the value, where the form doesn't write it
-abbrev pub unwritten_type : OpKind → Option ValueType
-unwritten_type (Constant x) = Some x.value_type
-unwritten_type (Compare x) = Some (test_type x.operand_type)
-unwritten_type (Transpose x) = Some (first_type x.ins_outs.outs_types)
-unwritten_type (Broadcast x) = Some (first_type x.ins_outs.outs_types)
-unwritten_type (Reduce x) = Some (first_type x.ins_outs.outs_types)
-unwritten_type (Sharding x) = Some value_type.Sharding
-unwritten_type (Return x) = Some value_type.Nothing
-unwritten_type _ = None
+abbrev pub structured : InsOuts → Written
+structured x = record (plain (x.ins_count + x.outs_count)) { types = x.ins_types ++ x.outs_types }
 
--- the same three for an operation of a region body
-abbrev pub body_operand_count : BodyKind → ℕ
-body_operand_count (body_kind.Constant x) = 0
-body_operand_count (body_kind.Cast x) = 1
-body_operand_count (body_kind.Binary x) = 2
-body_operand_count (body_kind.Compare x) = 2
-body_operand_count (body_kind.Select x) = 3
+-- where the type of the value isn't written, it is that of `outs`
+abbrev pub structured_untyped : InsOuts → Written
+structured_untyped x = record (structured x) { result = unwritten (first_type x.outs_types) }
 
-abbrev pub body_types_in : BodyKind → List ValueType
-body_types_in (body_kind.Constant x) = x.value_type ∷ []
-body_types_in (body_kind.Compare x) = x.operand_type ∷ []
-body_types_in (body_kind.Select x) = x.condition_type ∷ []
-body_types_in (body_kind.Cast x) = x.operand_type ∷ []
-body_types_in (body_kind.Binary x) = []
+abbrev pub in_groups : GridAxes → List ℤ → ValueType → Written
+in_groups on numbers t =
+    record (typed t) { grids = on.grid ∷ []; numbers = on.grid_axes ++ numbers }
 
-abbrev pub body_unwritten_type : BodyKind → Option ValueType
-body_unwritten_type (body_kind.Constant x) = Some x.value_type
-body_unwritten_type (body_kind.Compare x) = Some (test_type x.operand_type)
-body_unwritten_type _ = None
+-- ---- kind by kind
+
+abbrev pub written_by : OpKind → Written
+written_by (Constant x) = literal x
+written_by (Binary x) = plain 2
+written_by (Compare x) = comparison x.operand_type
+written_by (Select x) = selection x.condition_type
+written_by (Cast x) = typed x.operand_type
+written_by Empty = plain 0
+written_by (ExtractSlice x) = record (typed x.source_type) { numbers = slice_numbers x.slice }
+written_by (InsertSlice x) = record (plain 2) {
+  types = x.source_type ∷ [];
+  numbers = slice_numbers x.slice;
+}
+written_by (CollapseShape x) = record (typed x.source_type) { numbers = all_numbers x.reassociation }
+written_by (ExpandShape x) = record (typed x.source_type) {
+  numbers = all_numbers x.reassociation ++ x.output_shape;
+}
+written_by (Fill x) = structured x
+written_by (Matmul x) = structured x
+written_by (BatchMatmul x) = structured x
+written_by (Matvec x) = structured x
+written_by (Vecmat x) = structured x
+written_by (Dot x) = structured x
+written_by (Conv1d x) = structured x
+written_by (Conv2d x) = structured x
+written_by (Transpose x) = record (structured_untyped x.ins_outs) { numbers = x.permutation }
+written_by (Broadcast x) = record (structured_untyped x.ins_outs) { numbers = x.dimensions }
+written_by (Reduce x) = record (structured_untyped x.ins_outs) { numbers = x.dimensions; body = Some x.body }
+written_by (Generic x) = record (structured x.ins_outs) {
+  maps = x.indexing_maps;
+  body = Some x.body;
+  has_indices = true;
+}
+written_by (Sharding x) = record (plain 0) {
+  grids = x.grid ∷ [];
+  numbers = sharding_numbers x;
+  result = unwritten value_type.Sharding;
+}
+written_by (Shard x) = plain 2
+written_by (AllGather x) = in_groups x.on (pos x.gather_axis ∷ []) x.operand_type
+written_by (AllSlice x) = in_groups x.on (pos x.slice_axis ∷ []) x.operand_type
+written_by (AllReduce x) = in_groups x.on [] x.operand_type
+written_by (ReduceScatter x) = in_groups x.on (pos x.scatter_axis ∷ []) x.operand_type
+written_by (AllToAll x) = in_groups x.on (pos x.split_axis ∷ pos x.concat_axis ∷ []) x.operand_type
+written_by (Shift x) = in_groups x.on (pos x.shift_axis ∷ x.offset ∷ []) x.operand_type
+written_by (UpdateHalo x) = record (plain 1) {
+  grids = x.grid ∷ [];
+  numbers = all_numbers x.split_axes ++ x.halo_sizes;
+}
+written_by (Take x) = in_groups x.on ((pos x.axis ∷ x.starts) ++ x.sizes) x.operand_type
+written_by (Pad x) = record (typed x.operand_type) { numbers = x.low ++ x.high }
+written_by (Join x) = record (any_count x.operand_types) { numbers = pos x.axis ∷ [] }
+written_by (Call x) = record (any_count x.operand_types) { callees = x.callee ∷ [] }
+written_by (Return x) = record (any_count x.operand_types) { result = unwritten value_type.Nothing }
+
+-- the same for an operation of a region
+abbrev pub written_in_body : BodyKind → Written
+written_in_body (body_kind.Constant x) = literal x
+written_in_body (body_kind.Binary x) = plain 2
+written_in_body (body_kind.Compare x) = comparison x.operand_type
+written_in_body (body_kind.Select x) = selection x.condition_type
+written_in_body (body_kind.Cast x) = typed x.operand_type
+written_in_body (body_kind.Index x) = record (plain 0) {
+  numbers = pos x.dimension ∷ [];
+  result = unwritten value_type.Index;
+}
+written_in_body body_kind.IndexCast = record (plain 1) { result = a_width }

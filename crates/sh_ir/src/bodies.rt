@@ -2,8 +2,18 @@ use crate::arith_ops::{Cast, Compare, Constant, Select};
 use crate::types::ValueType;
 use sh_base::{BinOp, Ids, Items, Place, Width, Widths};
 
-/// What an operation of a region body is. The operations are those of the `arith` dialect on
-/// scalars; their syntax and meaning stand at the variants of [`crate::OpKind`] of the same names.
+/// The attribute of `linalg.index`.
+#[derive(Clone, Copy, PartialEq, Eq)]
+pub struct Index {
+    /// The number of the loop, the outermost being 0.
+    pub dimension: u64,
+}
+
+/// What an operation of a region body is.
+///
+/// The first five are those of the `arith` dialect on scalars; their syntax and meaning stand at the
+/// variants of [`crate::OpKind`] of the same names. The last two stand in the region of
+/// `linalg.generic` alone.
 #[derive(Drop)]
 pub enum BodyKind {
     Constant(Constant),
@@ -11,6 +21,20 @@ pub enum BodyKind {
     Compare(Compare),
     Select(Select),
     Cast(Cast),
+
+    /// `%i = linalg.index N : index`
+    ///
+    /// The coordinate of the loop point along loop `N`. It has the type [`ValueType::Index`].
+    ///
+    /// `%i = linalg.index 1 : index`
+    Index(Index),
+
+    /// `%r = arith.index_cast %i : index to WIDTH`
+    ///
+    /// The index as a scalar of the width, modulo two to the width.
+    ///
+    /// `%r = arith.index_cast %i : index to i32`
+    IndexCast,
 }
 
 /// An operation of a region body. Each defines a value.

@@ -1,5 +1,5 @@
 ghost use Rattle.std.specs.Prelude.{◌≡◌, ◌↔◌, IsTrue};
-ghost use Rattle.sh_ir.specs.Classes.{class_of, IsCollective, IsLocal, IsCreator, IsAnnotation, DefinesValue};
+ghost use Rattle.sh_ir.specs.Classes.{class_of, IsCollective, IsDeviceLayout, IsCreator, IsAnnotation, DefinesValue};
 
 use crate::OpKind;
 
@@ -20,10 +20,12 @@ pub enum OpClass {
     Sharding,
     /// `shard.shard`, which is the identity.
     Note,
-    /// An instruction of device form that a device does alone.
-    Local,
+    /// A slice, a padding or a join of device form, which a device does alone.
+    DeviceLayout,
     /// An instruction of device form that the devices of a group do together.
     Collective,
+    /// A call of another function.
+    Call,
     /// The end of a function.
     Return,
 }
@@ -56,7 +58,7 @@ impl OpKind {
             OpKind::Sharding(_) => OpClass::Sharding,
             OpKind::Shard(_) => OpClass::Note,
             OpKind::AllSlice(_) | OpKind::Take(_) | OpKind::Pad(_) | OpKind::Join(_) => {
-                OpClass::Local
+                OpClass::DeviceLayout
             }
             OpKind::AllGather(_)
             | OpKind::AllReduce(_)
@@ -64,6 +66,7 @@ impl OpKind {
             | OpKind::AllToAll(_)
             | OpKind::Shift(_)
             | OpKind::UpdateHalo(_) => OpClass::Collective,
+            OpKind::Call(_) => OpClass::Call,
             OpKind::Return(_) => OpClass::Return,
         }
     }
@@ -75,11 +78,12 @@ impl OpKind {
         self.class() == OpClass::Collective
     }
 
-    /// Whether it is an instruction of device form that a device does alone.
-    pub fn is_local(&self) -> bool
-        ensures { IsTrue result ↔ IsLocal self.now }
+    /// Whether it is `all_slice`, `take`, `pad` or `join`: an instruction of device form by which a
+    /// device makes a tensor of cells that it has.
+    pub fn is_device_layout(&self) -> bool
+        ensures { IsTrue result ↔ IsDeviceLayout self.now }
     {
-        self.class() == OpClass::Local
+        self.class() == OpClass::DeviceLayout
     }
 
     /// Whether it makes a value from nothing.

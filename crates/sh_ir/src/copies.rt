@@ -2,6 +2,7 @@ ghost use Rattle.std.specs.Prelude.{◌≡◌, IfOk};
 
 mod arith_ops;
 mod bodies;
+mod calls;
 mod functions;
 mod linalg_ops;
 mod modules;

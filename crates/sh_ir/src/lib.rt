@@ -10,6 +10,7 @@
 
 mod arith_ops;
 mod bodies;
+mod calls;
 mod classification;
 mod copies;
 mod functions;
@@ -22,7 +23,8 @@ mod tensor_ops;
 mod types;
 
 pub use arith_ops::{Cast, Compare, Constant, Contents, Select};
-pub use bodies::{Body, BodyKind, BodyOp, BodyOps};
+pub use bodies::{Body, BodyKind, BodyOp, BodyOps, Index};
+pub use calls::Call;
 pub use classification::OpClass;
 pub use copies::copy_module;
 pub use functions::{Arg, Args, Carry, Cut, Cuts, Func, Funcs, Note, Notes};
@@ -31,7 +33,7 @@ pub use linalg_ops::{
     Transpose,
 };
 pub use modules::{CallItem, CallItems, Constants, GridItem, GridItems, Module};
-pub use operations::{Op, OpKind, Ops, Return};
+pub use operations::{Op, OpKind, Ops, Return, push_op};
 pub use shard_ops::{
     AllGather, AllReduce, AllSlice, AllToAll, GridAxes, Join, Pad, ReduceScatter, Shard, Shift,
     Take, UpdateHalo,

@@ -1,4 +1,8 @@
+ghost use Rattle.std.specs.Prelude.{◌≡◌, ◌++◌, ◌∷◌, [], OnOk, OnErr};
+ghost use Rattle.sh_ir.specs.Parts.{op_of};
+
 use crate::arith_ops::{Cast, Compare, Constant, Select};
+use crate::calls::Call;
 use crate::linalg_ops::{Broadcast, Generic, InsOuts, Reduce, Transpose};
 use crate::shard_ops::{
     AllGather, AllReduce, AllSlice, AllToAll, Join, Pad, ReduceScatter, Shard, Shift, Take,
@@ -6,7 +10,7 @@ use crate::shard_ops::{
 };
 use crate::tensor_ops::{CollapseShape, ExpandShape, ExtractSlice, InsertSlice};
 use crate::types::{RawSharding, Types, ValueType};
-use sh_base::{BinOp, Ids, Items, Place};
+use sh_base::{BinOp, Ids, Items, Mem, Place};
 
 /// The written types of a function's `return`.
 #[derive(Drop)]
@@ -20,7 +24,7 @@ pub struct Return {
 /// lists, and `on` is `on @grid`, mostly followed by `grid_axes = nums`.
 ///
 /// The collectives and `all_slice`, `take`, `pad` and `join` stand in device form alone, the
-/// `sharding` and `shard` operations in source form alone.
+/// `sharding` and `shard` operations and calls in source form alone.
 #[derive(Drop)]
 pub enum OpKind {
     /// `%r = arith.constant true`, `%r = arith.constant -1 : i32` or
@@ -293,6 +297,13 @@ pub enum OpKind {
     /// `%2 = shardrun.join %0, %1 axis = 0 : tensor<1xi32>, tensor<3xi32> -> tensor<4xi32>`
     Join(Join),
 
+    /// `%r = call @f(%a, %b) : (T, U) -> V`, or `func.call`
+    ///
+    /// The one result of another function of the module on the operands.
+    ///
+    /// `%b = call @double(%a) : (tensor<4xi32>) -> tensor<4xi32>`
+    Call(Call),
+
     /// `return %a, %b : T, U`, or `func.return`
     ///
     /// The results of the function. It defines no value.
@@ -317,3 +328,24 @@ pub struct Op {
 
 /// The operations of a function in order, the return last.
 pub type Ops = Items<Op>;
+
+/// Appends the operation of these parts. On want of memory the list stays as it was.
+pub fn push_op(
+    ops: &mut Ops,
+    kind: OpKind,
+    operands: Ids,
+    defines: Option<u32>,
+    result_type: ValueType,
+    place: Place,
+) -> Result<(), Mem>
+    ensures ok { OnOk result (ops.new ≡ ops.old ++ op_of kind operands defines result_type place ∷ []) }
+    ensures err { OnErr result (ops.new ≡ ops.old) }
+{
+    ops.push(Op {
+        kind,
+        operands,
+        defines,
+        result: result_type,
+        place,
+    })
+}

@@ -1,5 +1,6 @@
 mod arith_ops;
 mod bodies;
+mod calls;
 mod functions;
 mod linalg_ops;
 mod modules;

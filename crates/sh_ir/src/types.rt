@@ -30,6 +30,8 @@ pub enum ValueType {
     Tensor(TensorType),
     /// The type `!shard.sharding`.
     Sharding,
+    /// The type of a loop's index in the region of `linalg.generic`, written `index` there alone.
+    Index,
 }
 
 /// Types in a written order, as those of an operation's operands.

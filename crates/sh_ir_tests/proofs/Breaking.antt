@@ -1,10 +1,10 @@
 -- Each broken module breaks its part and keeps the others, by computation.
 use Rattle.std.proofs.Common.{◌≡◌, ℕ, ◌∷◌, [], Bool, true, false, slice_index, refl, sym, ap, arith, rules}
 use Rattle.sh_ir.specs.declared.types.ValueType.{ValueType}
-use Rattle.sh_ir.specs.declared.types.ValueType.TheVariants.{Nothing, Scalar, Tensor, Sharding}
+use Rattle.sh_ir.specs.declared.types.ValueType.TheVariants.{Nothing, Scalar, Tensor, Sharding, Index}
 use Rattle.sh_base.specs.Cells.{bits_of}
-use Rattle.sh_ir_tests.specs.Parts.{Part, Holds, BreaksOnly, broken}
-use Rattle.sh_ir_tests.specs.Parts.Part.{names, numbers, types, grids, cuts, operands, body_operands, captures, defines, results, body_results, returns, literals, calls, maps, blocks, body_names}
+use Rattle.sh_ir_tests.specs.Parts.{Part, Holds, BreaksOnly, broken, nameless_callee, tensor_cast, index_result}
+use Rattle.sh_ir_tests.specs.Parts.Part.{names, numbers, types, grids, cuts, operands, body_operands, captures, defines, results, body_results, returns, literals, calls, maps, blocks, indices, body_names}
 
 not_true : (b : Bool) → b ≡ false → ¬ (b ≡ true)
 not_true b is_false is_true = cc
@@ -17,6 +17,7 @@ width_of (Scalar w) = bits_of w
 width_of (Tensor t) = bits_of t.width
 width_of Nothing = 0
 width_of Sharding = 0
+width_of Index = 0
 
 keeps_names : (q : Part) → ¬ (q ≡ names) → Holds q (broken names)
 keeps_names names other = absurd (other refl)
@@ -82,9 +83,34 @@ keeps_blocks : (q : Part) → ¬ (q ≡ blocks) → Holds q (broken blocks)
 keeps_blocks blocks other = absurd (other refl)
 keeps_blocks q other = search rules
 
+keeps_indices : (q : Part) → ¬ (q ≡ indices) → Holds q (broken indices)
+keeps_indices indices other = absurd (other refl)
+keeps_indices q other = search rules
+
 keeps_body_names : (q : Part) → ¬ (q ≡ body_names) → Holds q (broken body_names)
 keeps_body_names body_names other = absurd (other refl)
 keeps_body_names q other = search rules
+
+keeps_beside_callee : (q : Part) → ¬ (q ≡ names) → Holds q nameless_callee
+keeps_beside_callee names other = absurd (other refl)
+keeps_beside_callee q other = search rules
+
+pub callee_breaks : BreaksOnly names nameless_callee
+callee_breaks = record { breaks = not_true _ refl; keeps = keeps_beside_callee }
+
+keeps_beside_cast : (q : Part) → ¬ (q ≡ body_results) → Holds q tensor_cast
+keeps_beside_cast body_results other = absurd (other refl)
+keeps_beside_cast q other = search rules
+
+pub cast_breaks : BreaksOnly body_results tensor_cast
+cast_breaks = record { breaks = λ held. not_true _ refl held.1.1.0; keeps = keeps_beside_cast }
+
+keeps_beside_index : (q : Part) → ¬ (q ≡ types) → Holds q index_result
+keeps_beside_index types other = absurd (other refl)
+keeps_beside_index q other = search rules
+
+pub index_breaks : BreaksOnly types index_result
+index_breaks = record { breaks = not_true _ refl; keeps = keeps_beside_index }
 
 pub each_breaks : (part : Part) → BreaksOnly part (broken part)
 each_breaks names = record { breaks = not_true _ refl; keeps = keeps_names }
@@ -93,9 +119,9 @@ each_breaks types = record { breaks = not_true _ refl; keeps = keeps_types }
 each_breaks grids = record { breaks = not_true _ refl; keeps = keeps_grids }
 each_breaks cuts = record { breaks = λ held. not_equal 103 104 (λ same. omega arith) held.0.0; keeps = keeps_cuts }
 each_breaks operands = record { breaks = λ held. let same : 1 ≡ 2 = held.1.0 in omega arith; keeps = keeps_operands }
-each_breaks body_operands = record { breaks = λ held. let same : 3 ≡ 2 = held.1.0 in omega arith; keeps = keeps_body_operands }
-each_breaks captures = record { breaks = λ held. not_equal 0 1 (λ same. omega arith) held.1.1.0; keeps = keeps_captures }
-each_breaks defines = record { breaks = λ held. not_true false refl (let same : true ≡ false = held.1.1.1.0 in sym same); keeps = keeps_defines }
+each_breaks body_operands = record { breaks = λ held. let same : 3 ≡ 2 = held.1.1.1.0 in omega arith; keeps = keeps_body_operands }
+each_breaks captures = record { breaks = λ held. not_equal 0 1 (λ same. omega arith) held.1.1.1.0; keeps = keeps_captures }
+each_breaks defines = record { breaks = λ held. not_true false refl (let same : true ≡ false = held.1.1.1.1.0 in sym same); keeps = keeps_defines }
 each_breaks results = record { breaks = λ held. let same : 32 ≡ 1 = ap width_of held.1.0 in omega arith; keeps = keeps_results }
 each_breaks body_results = record { breaks = λ held. let same : 8 ≡ 32 = ap width_of held.0 in omega arith; keeps = keeps_body_results }
 each_breaks returns = record { breaks = not_true _ refl; keeps = keeps_returns }
@@ -103,4 +129,5 @@ each_breaks literals = record { breaks = not_true _ refl; keeps = keeps_literals
 each_breaks calls = record { breaks = not_true _ refl; keeps = keeps_calls }
 each_breaks maps = record { breaks = not_true _ refl; keeps = keeps_maps }
 each_breaks blocks = record { breaks = not_true _ refl; keeps = keeps_blocks }
+each_breaks indices = record { breaks = not_true _ refl; keeps = keeps_indices }
 each_breaks body_names = record { breaks = not_true _ refl; keeps = keeps_body_names }

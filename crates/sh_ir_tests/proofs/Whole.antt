@@ -21,5 +21,6 @@ formed_network = record {
   calls = refl;
   maps = refl;
   blocks = refl;
+  indices = refl;
   body_names = refl;
 }

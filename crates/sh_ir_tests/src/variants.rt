@@ -6,10 +6,10 @@ use sh_base::{
 };
 use sh_ir::{
     AffineMap, AffineMaps, AllGather, AllReduce, AllSlice, AllToAll, Body, BodyKind, BodyOp,
-    BodyOps, Broadcast, Cast, CollapseShape, Compare, Constant, Contents, Dim, ExpandShape,
-    ExtractSlice, Generic, GridAxes, InsOuts, InsertSlice, IteratorType, Join, Op, OpClass, OpKind,
-    Pad, RawSharding, Reduce, ReduceScatter, Return, Select, Shard, Shift, Slice, Take, TensorType,
-    Transpose, Types, UpdateHalo, ValueType,
+    BodyOps, Broadcast, Call, Cast, CollapseShape, Compare, Constant, Contents, Dim, ExpandShape,
+    ExtractSlice, Generic, GridAxes, Index, InsOuts, InsertSlice, IteratorType, Join, Op, OpClass,
+    OpKind, Pad, RawSharding, Reduce, ReduceScatter, Return, Select, Shard, Shift, Slice, Take,
+    TensorType, Transpose, Types, UpdateHalo, ValueType, push_op,
 };
 use std::alloc::Global;
 use std::process::Abort;
@@ -108,6 +108,8 @@ fn body_ops(alloc: Global) -> Result<BodyOps, Mem> {
     ops.push(body_op(alloc, BodyKind::Compare(compare(alloc)?))?)?;
     ops.push(body_op(alloc, BodyKind::Select(select(alloc)?))?)?;
     ops.push(body_op(alloc, BodyKind::Cast(cast(alloc)?))?)?;
+    ops.push(body_op(alloc, BodyKind::Index(Index { dimension: 1 }))?)?;
+    ops.push(body_op(alloc, BodyKind::IndexCast)?)?;
     Ok(ops)
 }
 
@@ -385,7 +387,7 @@ fn exchanges_are_classed_and_copied(rt: HostRuntime) -> Result<(), Fail> {
 }
 
 #[test]
-fn local_instructions_are_classed_and_copied(rt: HostRuntime) -> Result<(), Fail> {
+fn layouts_of_devices_are_classed_and_copied(rt: HostRuntime) -> Result<(), Fail> {
     let alloc = rt.alloc();
     let operand_type = vector(alloc)?;
     let slice = AllSlice {
@@ -393,7 +395,7 @@ fn local_instructions_are_classed_and_copied(rt: HostRuntime) -> Result<(), Fail
         operand_type,
         on: on(alloc)?,
     };
-    is_copied(&rt, alloc, OpClass::Local, OpKind::AllSlice(slice))?;
+    is_copied(&rt, alloc, OpClass::DeviceLayout, OpKind::AllSlice(slice))?;
     let take = Take {
         axis: 1,
         starts: numbers(alloc, &[0, 3])?,
@@ -401,21 +403,69 @@ fn local_instructions_are_classed_and_copied(rt: HostRuntime) -> Result<(), Fail
         operand_type: vector(alloc)?,
         on: on(alloc)?,
     };
-    is_copied(&rt, alloc, OpClass::Local, OpKind::Take(take))?;
+    is_copied(&rt, alloc, OpClass::DeviceLayout, OpKind::Take(take))?;
     let pad = Pad {
         low: numbers(alloc, &[1])?,
         high: numbers(alloc, &[0])?,
         operand_type: vector(alloc)?,
     };
-    is_copied(&rt, alloc, OpClass::Local, OpKind::Pad(pad))?;
+    is_copied(&rt, alloc, OpClass::DeviceLayout, OpKind::Pad(pad))?;
     is_copied(
         &rt,
         alloc,
-        OpClass::Local,
+        OpClass::DeviceLayout,
         OpKind::Join(Join {
             axis: 1,
             operand_types: types(alloc)?,
         }),
     )?;
+    Ok(())
+}
+
+#[test]
+fn calls_are_classed_and_copied(rt: HostRuntime) -> Result<(), Fail> {
+    let alloc = rt.alloc();
+    let call = Call {
+        callee: text(alloc, b"f")?,
+        operand_types: types(alloc)?,
+    };
+    is_copied(&rt, alloc, OpClass::Call, OpKind::Call(call))?;
+    let call = Call {
+        callee: text(alloc, b"f")?,
+        operand_types: types(alloc)?,
+    };
+    let other = Call {
+        callee: text(alloc, b"g")?,
+        operand_types: types(alloc)?,
+    };
+    assert!(rt; !call.same(&other));
+    Ok(())
+}
+
+#[test]
+fn index_types_are_copied(rt: HostRuntime) -> Result<(), Fail> {
+    let alloc = rt.alloc();
+    let index = ValueType::Index;
+    let copy = index.duplicate(alloc)?;
+    assert!(rt; copy.same(&index));
+    assert!(rt; !copy.same(&ValueType::Nothing));
+    let outer = BodyKind::Index(Index { dimension: 0 });
+    let inner = BodyKind::Index(Index { dimension: 1 });
+    assert!(rt; !outer.same(&inner));
+    Ok(())
+}
+
+#[test]
+fn an_operation_is_appended(rt: HostRuntime) -> Result<(), Fail> {
+    let alloc = rt.alloc();
+    let mut ops = Items::new(alloc);
+    let operands = ids(alloc, &[0, 1])?;
+    let result_type = vector(alloc)?;
+    let kind = OpKind::Binary(BinOp::Addi);
+    push_op(&mut ops, kind, operands, Some(2), result_type, PLACE)?;
+    assert_eq!(rt; ops.len(), 1);
+    let op = ops.get(0).ok_or("no operation")?;
+    assert!(rt; op.kind.same(&OpKind::Binary(BinOp::Addi)));
+    assert_eq!(rt; op.defines, Some(2));
     Ok(())
 }

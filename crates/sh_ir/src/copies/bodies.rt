@@ -12,6 +12,8 @@ impl Duplicate for BodyKind {
             BodyKind::Compare(it) => Ok(BodyKind::Compare(it.duplicate(alloc)?)),
             BodyKind::Select(it) => Ok(BodyKind::Select(it.duplicate(alloc)?)),
             BodyKind::Cast(it) => Ok(BodyKind::Cast(it.duplicate(alloc)?)),
+            BodyKind::Index(it) => Ok(BodyKind::Index(*it)),
+            BodyKind::IndexCast => Ok(BodyKind::IndexCast),
         }
     }
 }

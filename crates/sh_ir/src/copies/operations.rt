@@ -41,6 +41,7 @@ impl Duplicate for OpKind {
             OpKind::Take(it) => Ok(OpKind::Take(it.duplicate(alloc)?)),
             OpKind::Pad(it) => Ok(OpKind::Pad(it.duplicate(alloc)?)),
             OpKind::Join(it) => Ok(OpKind::Join(it.duplicate(alloc)?)),
+            OpKind::Call(it) => Ok(OpKind::Call(it.duplicate(alloc)?)),
             OpKind::Return(it) => Ok(OpKind::Return(it.duplicate(alloc)?)),
         }
     }

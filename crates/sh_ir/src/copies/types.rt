@@ -17,6 +17,7 @@ impl Duplicate for ValueType {
             ValueType::Scalar(it) => Ok(ValueType::Scalar(*it)),
             ValueType::Tensor(it) => Ok(ValueType::Tensor(it.duplicate(alloc)?)),
             ValueType::Sharding => Ok(ValueType::Sharding),
+            ValueType::Index => Ok(ValueType::Index),
         }
     }
 }

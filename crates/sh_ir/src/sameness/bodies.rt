@@ -11,6 +11,8 @@ impl Same for BodyKind {
             (BodyKind::Compare(left), BodyKind::Compare(right)) => left.same(right),
             (BodyKind::Select(left), BodyKind::Select(right)) => left.same(right),
             (BodyKind::Cast(left), BodyKind::Cast(right)) => left.same(right),
+            (BodyKind::Index(left), BodyKind::Index(right)) => *left == *right,
+            (BodyKind::IndexCast, BodyKind::IndexCast) => true,
             _ => false,
         }
     }

@@ -40,6 +40,7 @@ impl Same for OpKind {
             (OpKind::Take(left), OpKind::Take(right)) => left.same(right),
             (OpKind::Pad(left), OpKind::Pad(right)) => left.same(right),
             (OpKind::Join(left), OpKind::Join(right)) => left.same(right),
+            (OpKind::Call(left), OpKind::Call(right)) => left.same(right),
             (OpKind::Return(left), OpKind::Return(right)) => left.same(right),
             _ => false,
         }

@@ -16,6 +16,7 @@ impl Same for ValueType {
             (ValueType::Scalar(left), ValueType::Scalar(right)) => *left == *right,
             (ValueType::Tensor(left), ValueType::Tensor(right)) => left.same(right),
             (ValueType::Sharding, ValueType::Sharding) => true,
+            (ValueType::Index, ValueType::Index) => true,
             _ => false,
         }
     }
