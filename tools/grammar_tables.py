@@ -3,9 +3,10 @@
 
     python3 tools/grammar_tables.py
 
-It reads the forms (src/forms.rt), the keywords (specs/Lexemes.antt) and the grammar (specs/Language.antt), and writes
+It reads the forms (src/forms.rt), the keywords (specs/Lexemes.antt), the grammar (specs/Language.antt) and which forms
+are operations (specs/Grammar.antt), and writes
 
-    src/tables.rt       the keywords, the grammar laid out flat, the table of choices and how each form begins
+    src/tables.rt       the spellings of keywords by length, the grammar laid out flat, the table of choices and how each form begins
     specs/Forms.antt    the number of each form and the list of all forms
     proofs/Numbered.antt   that each form stands at its number
     proofs/Facts.antt   what the proof knows of each form: what may begin and follow it, and its weights
@@ -20,8 +21,8 @@ import subprocess
 CRATE = os.path.join(os.path.dirname(os.path.abspath(__file__)), "..", "crates", "sh_grammar")
 KINDS = ["Word", "Val", "At", "HashToken", "Block", "Bang", "Number", "DimToken", "Str", "Sign", "End"]
 GROUPS = ["signs", "dims", "bangs", "hashes", "words"]
-OPERATIONS = ["Operation", "Return", "RightSide", "Arith", "Combiner", "BodyOperation", "Yield"]
 START = "File"
+LONG = 32
 
 
 def read(path):
@@ -94,6 +95,21 @@ class Reader:
         return [[], comma + [symbol, form]]
 
 
+def spellings(keywords, groups):
+    """The texts that have a class of their own, in rows: words by length, an empty row, signs, dims, bangs, hashes."""
+    first = len(KINDS)
+    rows = []
+    for name, texts in groups.items():
+        former = re.search(r"(?s)\nformer_%s =(.*?)\[\]" % name, read("specs/Lexemes.antt"))
+        pairs = re.findall(r'former "([^"]*)" "([^"]*)"', former[1]) if former else []
+        row = [(text, first + i) for i, text in enumerate(texts)]
+        row += [(old, len(KINDS) + keywords.index(present)) for old, present in pairs]
+        first += len(texts)
+        rows.append(row)
+    words = rows.pop()
+    return [[pair for pair in words if len(pair[0]) == length] for length in range(LONG)] + [[]] + rows
+
+
 def grammar():
     forms = re.findall(r"(?m)^    ([A-Z]\w*),", read("src/forms.rt"))
     lexemes = read("specs/Lexemes.antt")
@@ -106,10 +122,14 @@ def grammar():
     return forms, groups, keywords, [table[form] for form in forms]
 
 
+def operations():
+    return re.findall(r"(?m)^is_operation (\w+) = true", read("specs/Grammar.antt"))
+
+
 def analyse(forms, rules, start, end):
     """What may begin and follow each form, whether it may be empty, and the choices."""
     count = len(forms)
-    empty, begins = [False] * count, [form in OPERATIONS for form in forms]
+    empty, begins = [False] * count, [form in operations() for form in forms]
     first, follow = [set() for _ in forms], [set() for _ in forms]
     follow[start].add(end)
 
@@ -200,10 +220,16 @@ def main():
     symbols = [f"Symbol::Class({n})" if kind == "class" else f"Symbol::Part(Form::{forms[n]})" for row in bodies for kind, n in row]
     rows = [[row.get(c, 0) for c in range(max(row) + 1)] for row in choices]
     beginnings = ["Beginning::" + ("Operation" if b else "Empty" if e else "Other") for b, e in zip(begins, empty)]
+    spelled = spellings(keywords, groups)
     write(
         "src/tables.rt",
         "// Written by tools/grammar_tables.py from the grammar in specs/Language.antt.\n\nuse crate::{Beginning, Form, Symbol};\n\n"
-        + "".join(static(f"The {name} that stand for themselves.", name.upper(), "&str", [f'"{w}"' for w in group]) + "\n" for name, group in groups.items())
+        + static("The texts with a class of their own, in rows: words by length, an empty row, signs, dims, bangs, hashes.", "SPELLINGS", "&str", [f'"{text}"' for row in spelled for text, _ in row])
+        + "\n"
+        + static("The class of each of them.", "CLASSES", "u16", [str(c) for row in spelled for _, c in row])
+        + "\n"
+        + static("Where each of their rows begins, and their end.", "SPELLING_ROWS", "u16", [str(n) for n in starts(spelled)])
+        + "\n"
         + static("All alternatives of all forms, one behind the other.", "SYMBOLS", "Symbol", symbols)
         + "\n"
         + static("Where each alternative begins among the symbols, and their end.", "STARTS", "u16", [str(n) for n in starts(bodies)])
@@ -223,22 +249,17 @@ def main():
 
 
 def forms_file(forms):
-    return f"""-- Written by tools/grammar_tables.py: the forms by number, and which of them are operations.
-use Rattle.std.specs.Prelude.{{ℕ, Bool, true, false, List, [], ◌∷◌}}
+    return f"""-- Written by tools/grammar_tables.py: the forms by number.
+use Rattle.std.specs.Prelude.{{ℕ, List, [], ◌∷◌}}
 use Rattle.sh_grammar.specs.declared.forms.Form.{{Form}}
 use Rattle.sh_grammar.specs.declared.forms.Form.TheVariants.{{{", ".join(forms)}}}
-
--- Where one of these may begin an operation is due: an operation, its right side, a return, the operations and the
--- yield of a body, and the combiner of a short reduction.
-unfoldable pub is_operation : Form → Bool
-{"".join(f"is_operation {form} = true{chr(10)}" for form in OPERATIONS)}is_operation _ = false
 
 -- the place of a form among all
 abbrev pub number : Form → ℕ
 {"".join(f"number {form} = {i}{chr(10)}" for i, form in enumerate(forms))}
 unfoldable pub all_forms : List Form
 all_forms =
-{lines([form + " ∷" for form in forms] + ["[]"], 110, "    ")}
+{lines([form + " ∷" for form in forms] + ["[]"], 94, "    ")}
 """
 
 

@@ -127,7 +127,7 @@ module _ (g : Grammar) (table : Table) (fs : List Facts) (start : Form) (serving
   pub predictive : is_predictive g table fs ≡ true
   predictive = (and_both _ _ (and_both _ _ (and_both _ _ serving).0).0).0
 
-  known : IsPredictive g table fs
+  pub known : IsPredictive g table fs
   known = predictive_test g table fs predictive
 
   lacking : (n : Form) (i : ℕ) (body : List Symbol) → IsAlternative g n i body → lacks 10 body ≡ true
@@ -135,7 +135,7 @@ module _ (g : Grammar) (table : Table) (fs : List Facts) (start : Form) (serving
       each_at (lacks 10) (g n) i body
       (each_at (λ m. each (lacks 10) (g m)) all_forms (number n) n (and_both _ _ serving).1 (form_at n)) at
 
-  whole_apt : IsApt fs (whole start 10)
+  pub whole_apt : IsApt fs (whole start 10)
   whole_apt =
       (λ c h. only_itself (facts_of fs start).follow 10 c (and_both _ _ (and_both _ _ (and_both _ _ serving).0).0).1 h, tt, ((and_both _ _ (and_both _ _ serving).0).1, tt))
 

@@ -1,9 +1,10 @@
 -- Each class has a token.
 use Rattle.std.proofs.Common.{◌≡◌, ◌⊎◌, ℕ, zero, suc, ◌-◌, ◌<◌, Bool, true, cond, nat_eq, nat_lt, List, [], ◌∷◌, get_or, refl, ap, arith, inl, inr}
 use Rattle.std.proofs.lemmas.Bool.{eqb-true, ltb-true}
+use Rattle.sh_base.specs.declared.places.Place.{Place}
 use Rattle.sh_lex.specs.declared.tokens.TokenKind.{TokenKind}
 use Rattle.sh_lex.specs.declared.tokens.TokenKind.TheVariants.{Word, Val, At, Hash, Block, Bang, Number, Dim, Str, Sign, End}
-use Rattle.sh_grammar.specs.Lexemes.{Lexeme, class_of, first_class, class_count, keywords, signs, dims, bangs, hashes, words}
+use Rattle.sh_grammar.specs.Lexemes.{Lexeme, class_of, first_class, class_count, keywords, signs, dims, bangs, hashes, words, former_words, former_bangs}
 use Rattle.sh_grammar.specs.Predictive.{◌&◌}
 use Rattle.sh_grammar.proofs.Booleans.{and_both}
 
@@ -14,10 +15,13 @@ kinds = Word ∷ Val ∷ At ∷ Hash ∷ Block ∷ Bang ∷ Number ∷ Dim ∷ S
 keyword_kind : ℕ → TokenKind
 keyword_kind c = cond (nat_lt c 24) Sign (cond (nat_lt c 25) Dim (cond (nat_lt c 26) Bang (cond (nat_lt c 27) Hash Word)))
 
+somewhere : Place
+somewhere = record { line = 1; column = 1 }
+
 -- a token of the class c
 unfoldable sample : ℕ → Lexeme
 unfolding kinds keyword_kind
-sample c = cond (nat_lt c 11) (record { kind = get_or kinds c Word; text = [] }) (record { kind = keyword_kind c; text = get_or keywords (c - 11) [] })
+sample c = cond (nat_lt c 11) (record { kind = get_or kinds c Word; text = []; place = somewhere }) (record { kind = keyword_kind c; text = get_or keywords (c - 11) []; place = somewhere })
 
 -- each of the numbers below n has a sample
 unfoldable sampled : ℕ → Bool
@@ -25,7 +29,7 @@ sampled zero = true
 sampled (suc n) = nat_eq (class_of (sample n)) n & sampled n
 
 all_sampled : sampled class_count ≡ true
-unfolding sampled sample kinds keyword_kind class_of first_class class_count signs dims bangs hashes words ◌&◌
+unfolding sampled sample kinds keyword_kind class_of first_class class_count signs dims bangs hashes words former_words former_bangs ◌&◌
 all_sampled = refl
 
 below_cases : (c n : ℕ) → c < suc n → (c ≡ n) ⊎ (c < n)

@@ -11,8 +11,8 @@ use Rattle.sh_grammar.specs.declared.symbols.Event.{Event}
 use Rattle.sh_grammar.specs.declared.symbols.Event.TheVariants.{Opened}
 use Rattle.sh_grammar.specs.declared.symbols.Symbol.TheVariants.{Class, Part}
 use Rattle.sh_grammar.specs.Lexemes.{Lexeme}
-use Rattle.sh_grammar.specs.Forms.{is_operation, number}
-use Rattle.sh_grammar.specs.Grammar.{Grammar, IsAlternative, IsDue, events, after, opens_operation}
+use Rattle.sh_grammar.specs.Forms.{number}
+use Rattle.sh_grammar.specs.Grammar.{Grammar, IsAlternative, IsDue, events, after, opens_operation, is_operation}
 use Rattle.sh_grammar.specs.Predictive.{Table, Facts, facts_of, may_be_empty, may_begin_operation, weight_of, no_facts, ◌&◌, ◌or◌}
 use Rattle.sh_grammar.specs.Machine.{Runs, ends, shifts, expands, IsApt, Moves}
 use Rattle.sh_grammar.proofs.Booleans.{and_both, and_true, or_left, or_right, or_either}

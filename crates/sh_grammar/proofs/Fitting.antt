@@ -4,8 +4,8 @@ use Rattle.std.specs.Prelude.{slice_get}
 use Rattle.std.proofs.lemmas.Bool.{eqb-true, ltb-true}
 use Rattle.sh_grammar.specs.declared.forms.Form.{Form}
 use Rattle.sh_grammar.specs.declared.symbols.Symbol.{Symbol}
-use Rattle.sh_grammar.specs.Forms.{number, all_forms, is_operation}
-use Rattle.sh_grammar.specs.Grammar.{Grammar, IsAlternative}
+use Rattle.sh_grammar.specs.Forms.{number, all_forms}
+use Rattle.sh_grammar.specs.Grammar.{Grammar, IsAlternative, is_operation}
 use Rattle.sh_grammar.specs.Predictive.{Table, Facts, facts_of, choice, has, may_be_empty, may_begin_operation, firsts, weight_of, follows_fit, alternative_fits, alternatives_fit, form_fits, is_predictive, is_shallower}
 use Rattle.sh_grammar.proofs.Numbered.{form_at}
 use Rattle.sh_grammar.proofs.Booleans.{and_both, implied, or_either, each_has, each_at, SomeAt, some_at}

@@ -15,3 +15,5 @@ pub mod StackSteps
 pub mod Words
 pub mod Lexed
 pub mod Answered
+pub mod OneWay
+pub mod OneLanguage

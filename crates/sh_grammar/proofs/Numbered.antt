@@ -1,7 +1,7 @@
 -- Written by tools/grammar_tables.py: each form stands at its number.
 use Rattle.std.specs.Prelude.{◌≡◌, refl, slice_get, Some}
 use Rattle.sh_grammar.specs.declared.forms.Form.{Form}
-use Rattle.sh_grammar.specs.declared.forms.Form.TheVariants.{File, Aliases, Contents, ModuleName, Items, Alias, Hash, Map, Names, MoreNames, Name, Item, Extents, Arguments, MoreArguments, Argument, Device, Cuts, MoreCuts, Cut, MaybeHalo, Halo, MaybeOffsets, Offsets, Func, Visibility, Parameters, MoreParameters, Parameter, Results, ResultTypes, Operations, Return, Returned, ValueType, Dims, Dim, Width, Types, MoreTypes, Values, MoreValues, Dense, Cells, Element, Elements, MoreElements, Num, Nums, Numbers, MoreNumbers, Lists, ListItems, MoreListItems, Operation, RightSide, Arith, Constant, Bin, Predicate, SelectTypes, Cast, Structured, Ins, MaybeIns, Outs, Reduce, Combiner, MaybeNoOverflow, NoOverflow, Body, BodyOperation, Yield, BlockArguments, MoreBlockArguments, BlockArgument, Maps, MoreMaps, MapOrAlias, Iterators, MoreIterators, On, MaybeAxes, MaybeReduction, ReductionKind, KindName, MaybeForUsers, MaybeRotate}
+use Rattle.sh_grammar.specs.declared.forms.Form.TheVariants.{File, Aliases, Contents, ModuleName, Items, Alias, Hash, Map, Names, MoreNames, Name, Item, Extents, Arguments, MoreArguments, Argument, Device, Cuts, MoreCuts, Cut, MaybeHalo, Halo, MaybeOffsets, Offsets, Func, Visibility, Parameters, MoreParameters, Parameter, Results, ResultTypes, Operations, Return, Returned, ValueType, Dims, Dim, Width, Types, MoreTypes, Values, MoreValues, Dense, Cells, Element, Elements, MoreElements, Num, Nums, Numbers, MoreNumbers, Lists, ListItems, MoreListItems, Operation, RightSide, EmptyTensor, ExtractSlice, InsertSlice, CollapseShape, ExpandShape, Structured, StructuredName, Transpose, Broadcast, Reduce, Generic, Sharding, Shard, AllGather, AllSlice, AllReduce, ReduceScatter, AllToAll, Shift, UpdateHalo, Take, Pad, Join, Call, CallName, Arith, Constant, Literal, Binary, BinaryName, Compare, Predicate, Select, SelectTypes, Cast, CastName, Ins, MaybeIns, Outs, ReduceTail, Combiner, MaybeNoOverflow, NoOverflow, Body, BodyOperation, GenericBody, GenericOperation, GenericRightSide, LoopIndex, IndexCast, Yield, BlockArguments, MoreBlockArguments, BlockArgument, Maps, MoreMaps, MapOrAlias, Iterators, MoreIterators, On, MaybeAxes, MaybeReduction, ReductionKind, KindName, MaybeForUsers, MaybeRotate}
 use Rattle.sh_grammar.specs.Forms.{number, all_forms}
 
 pub form_at : (n : Form) → slice_get all_forms (number n) ≡ Some n
@@ -62,22 +62,56 @@ form_at ListItems = refl
 form_at MoreListItems = refl
 form_at Operation = refl
 form_at RightSide = refl
+form_at EmptyTensor = refl
+form_at ExtractSlice = refl
+form_at InsertSlice = refl
+form_at CollapseShape = refl
+form_at ExpandShape = refl
+form_at Structured = refl
+form_at StructuredName = refl
+form_at Transpose = refl
+form_at Broadcast = refl
+form_at Reduce = refl
+form_at Generic = refl
+form_at Sharding = refl
+form_at Shard = refl
+form_at AllGather = refl
+form_at AllSlice = refl
+form_at AllReduce = refl
+form_at ReduceScatter = refl
+form_at AllToAll = refl
+form_at Shift = refl
+form_at UpdateHalo = refl
+form_at Take = refl
+form_at Pad = refl
+form_at Join = refl
+form_at Call = refl
+form_at CallName = refl
 form_at Arith = refl
 form_at Constant = refl
-form_at Bin = refl
+form_at Literal = refl
+form_at Binary = refl
+form_at BinaryName = refl
+form_at Compare = refl
 form_at Predicate = refl
+form_at Select = refl
 form_at SelectTypes = refl
 form_at Cast = refl
-form_at Structured = refl
+form_at CastName = refl
 form_at Ins = refl
 form_at MaybeIns = refl
 form_at Outs = refl
-form_at Reduce = refl
+form_at ReduceTail = refl
 form_at Combiner = refl
 form_at MaybeNoOverflow = refl
 form_at NoOverflow = refl
 form_at Body = refl
 form_at BodyOperation = refl
+form_at GenericBody = refl
+form_at GenericOperation = refl
+form_at GenericRightSide = refl
+form_at LoopIndex = refl
+form_at IndexCast = refl
 form_at Yield = refl
 form_at BlockArguments = refl
 form_at MoreBlockArguments = refl

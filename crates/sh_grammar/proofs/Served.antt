@@ -7,7 +7,8 @@ use Rattle.sh_grammar.specs.declared.forms.Form.{Form}
 use Rattle.sh_grammar.specs.declared.forms.Form.TheVariants.{File}
 use Rattle.sh_grammar.specs.declared.symbols.Symbol.{Symbol}
 use Rattle.sh_grammar.specs.Lexemes.{signs, dims, bangs, hashes, words, class_count}
-use Rattle.sh_grammar.specs.Forms.{number, all_forms, is_operation}
+use Rattle.sh_grammar.specs.Forms.{number, all_forms}
+use Rattle.sh_grammar.specs.Grammar.{is_operation}
 use Rattle.sh_grammar.specs.Laid.{the_symbols, the_starts, the_firsts, the_choices, the_rows, the_beginnings}
 use Rattle.sh_grammar.specs.Language.{language}
 use Rattle.sh_grammar.specs.Predictive.{serves, no_facts, ◌&◌, ◌or◌, only_if}
@@ -27,7 +28,7 @@ get_mapped (m ∷ ns) (suc i) n e = get_mapped ns i n e
 grammar_is : grammar_of the_symbols the_starts the_firsts ≡ language
 grammar_is = fun_ext (λ n. ap (λ g. get_or g (number n) []) laid ∙ get_mapped all_forms (number n) n (form_at n))
 
-language_served : serves language (pieces the_choices the_rows) the_facts File 10 ≡ true
+pub language_served : serves language (pieces the_choices the_rows) the_facts File 10 ≡ true
 unfolding signs dims bangs hashes words class_count all_forms is_operation no_facts ◌&◌ ◌or◌ only_if the_facts the_choices the_rows
 language_served = refl
 

@@ -1,19 +1,7 @@
--- Written by tools/grammar_tables.py: the forms by number, and which of them are operations.
-use Rattle.std.specs.Prelude.{ℕ, Bool, true, false, List, [], ◌∷◌}
+-- Written by tools/grammar_tables.py: the forms by number.
+use Rattle.std.specs.Prelude.{ℕ, List, [], ◌∷◌}
 use Rattle.sh_grammar.specs.declared.forms.Form.{Form}
-use Rattle.sh_grammar.specs.declared.forms.Form.TheVariants.{File, Aliases, Contents, ModuleName, Items, Alias, Hash, Map, Names, MoreNames, Name, Item, Extents, Arguments, MoreArguments, Argument, Device, Cuts, MoreCuts, Cut, MaybeHalo, Halo, MaybeOffsets, Offsets, Func, Visibility, Parameters, MoreParameters, Parameter, Results, ResultTypes, Operations, Return, Returned, ValueType, Dims, Dim, Width, Types, MoreTypes, Values, MoreValues, Dense, Cells, Element, Elements, MoreElements, Num, Nums, Numbers, MoreNumbers, Lists, ListItems, MoreListItems, Operation, RightSide, Arith, Constant, Bin, Predicate, SelectTypes, Cast, Structured, Ins, MaybeIns, Outs, Reduce, Combiner, MaybeNoOverflow, NoOverflow, Body, BodyOperation, Yield, BlockArguments, MoreBlockArguments, BlockArgument, Maps, MoreMaps, MapOrAlias, Iterators, MoreIterators, On, MaybeAxes, MaybeReduction, ReductionKind, KindName, MaybeForUsers, MaybeRotate}
-
--- Where one of these may begin an operation is due: an operation, its right side, a return, the operations and the
--- yield of a body, and the combiner of a short reduction.
-unfoldable pub is_operation : Form → Bool
-is_operation Operation = true
-is_operation Return = true
-is_operation RightSide = true
-is_operation Arith = true
-is_operation Combiner = true
-is_operation BodyOperation = true
-is_operation Yield = true
-is_operation _ = false
+use Rattle.sh_grammar.specs.declared.forms.Form.TheVariants.{File, Aliases, Contents, ModuleName, Items, Alias, Hash, Map, Names, MoreNames, Name, Item, Extents, Arguments, MoreArguments, Argument, Device, Cuts, MoreCuts, Cut, MaybeHalo, Halo, MaybeOffsets, Offsets, Func, Visibility, Parameters, MoreParameters, Parameter, Results, ResultTypes, Operations, Return, Returned, ValueType, Dims, Dim, Width, Types, MoreTypes, Values, MoreValues, Dense, Cells, Element, Elements, MoreElements, Num, Nums, Numbers, MoreNumbers, Lists, ListItems, MoreListItems, Operation, RightSide, EmptyTensor, ExtractSlice, InsertSlice, CollapseShape, ExpandShape, Structured, StructuredName, Transpose, Broadcast, Reduce, Generic, Sharding, Shard, AllGather, AllSlice, AllReduce, ReduceScatter, AllToAll, Shift, UpdateHalo, Take, Pad, Join, Call, CallName, Arith, Constant, Literal, Binary, BinaryName, Compare, Predicate, Select, SelectTypes, Cast, CastName, Ins, MaybeIns, Outs, ReduceTail, Combiner, MaybeNoOverflow, NoOverflow, Body, BodyOperation, GenericBody, GenericOperation, GenericRightSide, LoopIndex, IndexCast, Yield, BlockArguments, MoreBlockArguments, BlockArgument, Maps, MoreMaps, MapOrAlias, Iterators, MoreIterators, On, MaybeAxes, MaybeReduction, ReductionKind, KindName, MaybeForUsers, MaybeRotate}
 
 -- the place of a form among all
 abbrev pub number : Form → ℕ
@@ -73,47 +61,88 @@ number ListItems = 52
 number MoreListItems = 53
 number Operation = 54
 number RightSide = 55
-number Arith = 56
-number Constant = 57
-number Bin = 58
-number Predicate = 59
-number SelectTypes = 60
-number Cast = 61
-number Structured = 62
-number Ins = 63
-number MaybeIns = 64
-number Outs = 65
-number Reduce = 66
-number Combiner = 67
-number MaybeNoOverflow = 68
-number NoOverflow = 69
-number Body = 70
-number BodyOperation = 71
-number Yield = 72
-number BlockArguments = 73
-number MoreBlockArguments = 74
-number BlockArgument = 75
-number Maps = 76
-number MoreMaps = 77
-number MapOrAlias = 78
-number Iterators = 79
-number MoreIterators = 80
-number On = 81
-number MaybeAxes = 82
-number MaybeReduction = 83
-number ReductionKind = 84
-number KindName = 85
-number MaybeForUsers = 86
-number MaybeRotate = 87
+number EmptyTensor = 56
+number ExtractSlice = 57
+number InsertSlice = 58
+number CollapseShape = 59
+number ExpandShape = 60
+number Structured = 61
+number StructuredName = 62
+number Transpose = 63
+number Broadcast = 64
+number Reduce = 65
+number Generic = 66
+number Sharding = 67
+number Shard = 68
+number AllGather = 69
+number AllSlice = 70
+number AllReduce = 71
+number ReduceScatter = 72
+number AllToAll = 73
+number Shift = 74
+number UpdateHalo = 75
+number Take = 76
+number Pad = 77
+number Join = 78
+number Call = 79
+number CallName = 80
+number Arith = 81
+number Constant = 82
+number Literal = 83
+number Binary = 84
+number BinaryName = 85
+number Compare = 86
+number Predicate = 87
+number Select = 88
+number SelectTypes = 89
+number Cast = 90
+number CastName = 91
+number Ins = 92
+number MaybeIns = 93
+number Outs = 94
+number ReduceTail = 95
+number Combiner = 96
+number MaybeNoOverflow = 97
+number NoOverflow = 98
+number Body = 99
+number BodyOperation = 100
+number GenericBody = 101
+number GenericOperation = 102
+number GenericRightSide = 103
+number LoopIndex = 104
+number IndexCast = 105
+number Yield = 106
+number BlockArguments = 107
+number MoreBlockArguments = 108
+number BlockArgument = 109
+number Maps = 110
+number MoreMaps = 111
+number MapOrAlias = 112
+number Iterators = 113
+number MoreIterators = 114
+number On = 115
+number MaybeAxes = 116
+number MaybeReduction = 117
+number ReductionKind = 118
+number KindName = 119
+number MaybeForUsers = 120
+number MaybeRotate = 121
 
 unfoldable pub all_forms : List Form
 all_forms =
-    File ∷ Aliases ∷ Contents ∷ ModuleName ∷ Items ∷ Alias ∷ Hash ∷ Map ∷ Names ∷ MoreNames ∷ Name ∷ Item ∷
-    Extents ∷ Arguments ∷ MoreArguments ∷ Argument ∷ Device ∷ Cuts ∷ MoreCuts ∷ Cut ∷ MaybeHalo ∷ Halo ∷
-    MaybeOffsets ∷ Offsets ∷ Func ∷ Visibility ∷ Parameters ∷ MoreParameters ∷ Parameter ∷ Results ∷ ResultTypes ∷
-    Operations ∷ Return ∷ Returned ∷ ValueType ∷ Dims ∷ Dim ∷ Width ∷ Types ∷ MoreTypes ∷ Values ∷ MoreValues ∷
-    Dense ∷ Cells ∷ Element ∷ Elements ∷ MoreElements ∷ Num ∷ Nums ∷ Numbers ∷ MoreNumbers ∷ Lists ∷ ListItems ∷
-    MoreListItems ∷ Operation ∷ RightSide ∷ Arith ∷ Constant ∷ Bin ∷ Predicate ∷ SelectTypes ∷ Cast ∷ Structured ∷
-    Ins ∷ MaybeIns ∷ Outs ∷ Reduce ∷ Combiner ∷ MaybeNoOverflow ∷ NoOverflow ∷ Body ∷ BodyOperation ∷ Yield ∷
-    BlockArguments ∷ MoreBlockArguments ∷ BlockArgument ∷ Maps ∷ MoreMaps ∷ MapOrAlias ∷ Iterators ∷
-    MoreIterators ∷ On ∷ MaybeAxes ∷ MaybeReduction ∷ ReductionKind ∷ KindName ∷ MaybeForUsers ∷ MaybeRotate ∷ []
+    File ∷ Aliases ∷ Contents ∷ ModuleName ∷ Items ∷ Alias ∷ Hash ∷ Map ∷ Names ∷ MoreNames ∷
+    Name ∷ Item ∷ Extents ∷ Arguments ∷ MoreArguments ∷ Argument ∷ Device ∷ Cuts ∷ MoreCuts ∷
+    Cut ∷ MaybeHalo ∷ Halo ∷ MaybeOffsets ∷ Offsets ∷ Func ∷ Visibility ∷ Parameters ∷
+    MoreParameters ∷ Parameter ∷ Results ∷ ResultTypes ∷ Operations ∷ Return ∷ Returned ∷
+    ValueType ∷ Dims ∷ Dim ∷ Width ∷ Types ∷ MoreTypes ∷ Values ∷ MoreValues ∷ Dense ∷ Cells ∷
+    Element ∷ Elements ∷ MoreElements ∷ Num ∷ Nums ∷ Numbers ∷ MoreNumbers ∷ Lists ∷ ListItems ∷
+    MoreListItems ∷ Operation ∷ RightSide ∷ EmptyTensor ∷ ExtractSlice ∷ InsertSlice ∷
+    CollapseShape ∷ ExpandShape ∷ Structured ∷ StructuredName ∷ Transpose ∷ Broadcast ∷ Reduce ∷
+    Generic ∷ Sharding ∷ Shard ∷ AllGather ∷ AllSlice ∷ AllReduce ∷ ReduceScatter ∷ AllToAll ∷
+    Shift ∷ UpdateHalo ∷ Take ∷ Pad ∷ Join ∷ Call ∷ CallName ∷ Arith ∷ Constant ∷ Literal ∷
+    Binary ∷ BinaryName ∷ Compare ∷ Predicate ∷ Select ∷ SelectTypes ∷ Cast ∷ CastName ∷ Ins ∷
+    MaybeIns ∷ Outs ∷ ReduceTail ∷ Combiner ∷ MaybeNoOverflow ∷ NoOverflow ∷ Body ∷
+    BodyOperation ∷ GenericBody ∷ GenericOperation ∷ GenericRightSide ∷ LoopIndex ∷ IndexCast ∷
+    Yield ∷ BlockArguments ∷ MoreBlockArguments ∷ BlockArgument ∷ Maps ∷ MoreMaps ∷ MapOrAlias ∷
+    Iterators ∷ MoreIterators ∷ On ∷ MaybeAxes ∷ MaybeReduction ∷ ReductionKind ∷ KindName ∷
+    MaybeForUsers ∷ MaybeRotate ∷ []

@@ -6,7 +6,7 @@ use Rattle.sh_grammar.specs.declared.symbols.Symbol.TheVariants.{Class, Part}
 use Rattle.sh_grammar.specs.declared.symbols.Event.{Event}
 use Rattle.sh_grammar.specs.declared.symbols.Event.TheVariants.{Took, Opened}
 use Rattle.sh_grammar.specs.Lexemes.{Lexeme, class_of}
-use Rattle.sh_grammar.specs.Forms.{is_operation}
+use Rattle.sh_grammar.specs.declared.forms.Form.TheVariants.{Operation, Return, RightSide, Arith, GenericRightSide, Combiner, BodyOperation, GenericOperation, Yield}
 
 -- what each form may be: one of these rows of symbols
 abbrev pub Grammar : Type 0
@@ -16,8 +16,8 @@ Grammar = Form → List (List Symbol)
 abbrev pub IsAlternative : Grammar → Form → ℕ → List Symbol → Type 0
 IsAlternative g n i body = slice_get (g n) i ≡ Some body
 
--- A row of trees: a token and the trees behind it, or a form with the alternative that it takes, the trees below it
--- and the trees behind it.
+-- A row of trees: a token and the trees behind it, or a form with the alternative that it takes, the
+-- trees below it and the trees behind it.
 pub data Trees : Type 0 where
   nothing : Trees
   token : Lexeme → Trees → Trees
@@ -40,15 +40,16 @@ pub data Spells (g : Grammar) : List Symbol → Trees → Type 0 where
   is_token : {c : ℕ} {t : Lexeme} {α : List Symbol} {behind : Trees}
       → class_of t ≡ c → Spells g α behind → Spells g (Class c ∷ α) (token t behind)
   is_form : {n : Form} {i : ℕ} {body α : List Symbol} {below behind : Trees}
-      → IsAlternative g n i body → Spells g body below → Spells g α behind → Spells g (Part n ∷ α) (form n i below behind)
+      → IsAlternative g n i body → Spells g body below → Spells g α behind
+      → Spells g (Part n ∷ α) (form n i below behind)
 
 -- the tokens are a spelling of the symbols, by these trees
 abbrev pub Reads : Grammar → List Symbol → List Lexeme → Trees → Type 0
 Reads g α ts f = Spells g α f × (tokens f ≡ ts)
 
--- The tokens are a front of the symbols. No tokens are, and a spelling is. A front of what a form may be is a front of
--- the form, and of a row that begins with it. A spelling of the first symbol and then a front of the rest is a front of
--- the row.
+-- The tokens are a front of the symbols. No tokens are, and a spelling is. A front of what a form may
+-- be is a front of the form, and of a row that begins with it. A spelling of the first symbol and then
+-- a front of the rest is a front of the row.
 pub data Front (g : Grammar) : List Symbol → List Lexeme → Type 0 where
   is_empty : {α : List Symbol} → Front g α []
   is_spelled : {α : List Symbol} (f : Trees) → Spells g α f → Front g α (tokens f)
@@ -57,8 +58,8 @@ pub data Front (g : Grammar) : List Symbol → List Lexeme → Type 0 where
   is_past : {s : Symbol} {α : List Symbol} (f : Trees) (ts : List Lexeme)
       → Spells g (s ∷ []) f → Front g α ts → Front g (s ∷ α) (tokens f ++ ts)
 
--- the trees in the order in which they are read: each form before what is below it, with its alternative and how many
--- trees are below it
+-- the trees in the order in which they are read: each form before what is below it, with its
+-- alternative and how many trees are below it
 abbrev pub events : Trees → List Event
 events nothing = []
 events (token t behind) = Took ∷ events behind
@@ -70,6 +71,27 @@ after zero es = es
 after (suc k) [] = []
 after (suc k) (Took ∷ es) = after k es
 after (suc k) (Opened n i size ∷ es) = after (suc k) es
+
+-- what is read up to and with so many tokens
+abbrev pub up_to : ℕ → List Event → List Event
+up_to zero es = []
+up_to (suc k) [] = []
+up_to (suc k) (Took ∷ es) = Took ∷ up_to k es
+up_to (suc k) (Opened n i size ∷ es) = Opened n i size ∷ up_to (suc k) es
+
+-- Where one of these forms may begin an operation is due: an operation, its right side, a return,
+-- the operations and the yield of a region, and the combiner of a short reduction.
+unfoldable pub is_operation : Form → Bool
+is_operation Operation = true
+is_operation RightSide = true
+is_operation Return = true
+is_operation BodyOperation = true
+is_operation Arith = true
+is_operation GenericOperation = true
+is_operation GenericRightSide = true
+is_operation Yield = true
+is_operation Combiner = true
+is_operation _ = false
 
 -- an operation is opened before the next token
 abbrev pub opens_operation : List Event → Bool

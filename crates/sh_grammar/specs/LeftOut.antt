@@ -14,9 +14,10 @@ is_among texts text = list_any (pointwise nat_eq text) texts
 
 unfoldable pub left_out_words : List (List ℕ)
 left_out_words =
-    codes "f16" ∷ codes "bf16" ∷ codes "f32" ∷ codes "f64" ∷ codes "index" ∷ codes "vector" ∷ codes "memref" ∷ codes "complex"
-    ∷ codes "overflow" ∷ codes "loc" ∷ codes "attributes" ∷ codes "dense_resource"
-    ∷ codes "func.call" ∷ codes "linalg.index" ∷ codes "linalg.map" ∷ codes "tensor.pad" ∷ codes "tensor.concat" ∷ codes "tensor.splat" ∷ []
+    codes "f16" ∷ codes "bf16" ∷ codes "f32" ∷ codes "f64" ∷ codes "index" ∷ codes "vector"
+    ∷ codes "memref" ∷ codes "complex" ∷ codes "overflow" ∷ codes "loc" ∷ codes "attributes"
+    ∷ codes "dense_resource" ∷ codes "linalg.map" ∷ codes "tensor.pad" ∷ codes "tensor.concat"
+    ∷ codes "tensor.splat" ∷ []
 
 unfoldable pub left_out_beginnings : List (List ℕ)
 left_out_beginnings = codes "scf." ∷ codes "cf." ∷ codes "linalg.pooling" ∷ []
@@ -36,14 +37,20 @@ are_digits bytes = nat_lt 0 (length bytes) && list_all is_ascii_digit bytes
 
 -- `i`, `si` or `ui`, and then digits
 abbrev pub is_integer_type : List ℕ → Bool
-is_integer_type text = list_any (λ begin. starts_with nat_eq text begin && are_digits (drop (length begin) text)) integer_beginnings
+is_integer_type text =
+    list_any
+    (λ begin. starts_with nat_eq text begin && are_digits (drop (length begin) text))
+    integer_beginnings
 
 -- one of the words, a word that begins so, or an integer type that is no width
 abbrev pub is_left_out_word : List ℕ → Bool
 is_left_out_word text =
-    is_among left_out_words text || list_any (starts_with nat_eq text) left_out_beginnings || (is_integer_type text && not (is_among widths text))
+    is_among left_out_words text
+    || list_any (starts_with nat_eq text) left_out_beginnings
+    || (is_integer_type text && not (is_among widths text))
 
--- a token of this kind and text is left out: such a word, `+`, `*`, or a string where an operation is due
+-- a token of this kind and text is left out: such a word, `+`, `*`, or a string where an operation is
+-- due
 abbrev pub is_left_out : Bool → TokenKind → List ℕ → Bool
 is_left_out due Word text = is_left_out_word text
 is_left_out due Sign text = is_among left_out_signs text

@@ -8,3 +8,4 @@ pub mod Machine
 pub mod LeftOut
 pub mod Answer
 pub mod Laid
+pub mod Layout

@@ -1,21 +1,24 @@
--- The test that a table of choices serves a grammar: one token ahead tells which alternative to take.
+-- The test that a table of choices serves a grammar: one token ahead tells which alternative to
+-- take.
 use Rattle.std.specs.Prelude.{ℕ, suc, ◌+◌, Bool, true, false, cond, nat_eq, nat_lt, List, [], ◌∷◌, ◌++◌, get_or}
 use Rattle.sh_grammar.specs.declared.forms.Form.{Form}
 use Rattle.sh_grammar.specs.declared.symbols.Symbol.{Symbol}
 use Rattle.sh_grammar.specs.declared.symbols.Symbol.TheVariants.{Class, Part}
 use Rattle.sh_grammar.specs.Lexemes.{class_count}
-use Rattle.sh_grammar.specs.Forms.{number, all_forms, is_operation}
-use Rattle.sh_grammar.specs.Grammar.{Grammar}
+use Rattle.sh_grammar.specs.Forms.{number, all_forms}
+use Rattle.sh_grammar.specs.Grammar.{Grammar, is_operation}
 
--- for each form a row: by the class of the next token 0 where nothing fits, else the alternative's number and 1
+-- for each form a row: by the class of the next token 0 where nothing fits, else the alternative's
+-- number and 1
 abbrev pub Table : Type 0
 Table = List (List ℕ)
 
 abbrev pub choice : Table → Form → ℕ → ℕ
 choice table n c = get_or (get_or table (number n) []) c 0
 
--- What is known of a form: whether it may be empty, whether an operation may begin where it begins, the classes that may
--- begin it and that may follow it, and two weights, by which it doesn't begin with itself and has an end.
+-- What is known of a form: whether it may be empty, whether an operation may begin where it begins,
+-- the classes that may begin it and that may follow it, and two weights, by which it doesn't begin
+-- with itself and has an end.
 pub record Facts : Type 0 where
   pub empty : Bool
   pub begins : Bool
@@ -68,7 +71,8 @@ may_be_empty fs (Part n ∷ α) = (facts_of fs n).empty & may_be_empty fs α
 abbrev pub may_begin_operation : List Facts → List Symbol → Bool
 may_begin_operation fs [] = false
 may_begin_operation fs (Class c ∷ α) = false
-may_begin_operation fs (Part n ∷ α) = (facts_of fs n).begins or (facts_of fs n).empty & may_begin_operation fs α
+may_begin_operation fs (Part n ∷ α) =
+    (facts_of fs n).begins or (facts_of fs n).empty & may_begin_operation fs α
 
 abbrev pub firsts : List Facts → List Symbol → List ℕ
 firsts fs [] = []
@@ -80,7 +84,8 @@ weight_of fs [] = 0
 weight_of fs (Class c ∷ α) = 0
 weight_of fs (Part n ∷ α) = (facts_of fs n).weight + cond (facts_of fs n).empty (weight_of fs α) 0
 
--- what comes behind each form in an alternative of the form n is in what may follow it, and classes are classes of tokens
+-- what comes behind each form in an alternative of the form n is in what may follow it, and classes
+-- are classes of tokens
 abbrev pub follows_fit : List Facts → Form → List Symbol → Bool
 follows_fit fs n [] = true
 follows_fit fs n (Class c ∷ α) = nat_lt c class_count & follows_fit fs n α
@@ -105,7 +110,8 @@ alternative_fits table fs n i body =
 
 abbrev pub alternatives_fit : Table → List Facts → Form → ℕ → List (List Symbol) → Bool
 alternatives_fit table fs n i [] = true
-alternatives_fit table fs n i (body ∷ bodies) = alternative_fits table fs n i body & alternatives_fit table fs n (suc i) bodies
+alternatives_fit table fs n i (body ∷ bodies) =
+    alternative_fits table fs n i body & alternatives_fit table fs n (suc i) bodies
 
 -- each form in it has a smaller depth
 abbrev pub is_shallower : List Facts → ℕ → List Symbol → Bool
@@ -113,7 +119,8 @@ is_shallower fs d [] = true
 is_shallower fs d (Class c ∷ α) = is_shallower fs d α
 is_shallower fs d (Part m ∷ α) = nat_lt (facts_of fs m).depth d & is_shallower fs d α
 
--- Each alternative fits, some alternative has an end, the form is empty only where an alternative is, and an operation
+-- Each alternative fits, some alternative has an end, the form is empty only where an alternative
+-- is, and an operation
 -- begins it exactly where it is one, or begins an alternative.
 abbrev pub form_fits : Grammar → Table → List Facts → Form → Bool
 form_fits g table fs n =
@@ -132,7 +139,8 @@ lacks c [] = true
 lacks c (Class d ∷ α) = cond (nat_eq c d) false (lacks c α)
 lacks c (Part n ∷ α) = lacks c α
 
--- the same, the class that ends all may follow the form that stands for all, and it stands nowhere else
+-- the same, the class that ends all may follow the form that stands for all, and it stands nowhere
+-- else
 abbrev pub serves : Grammar → Table → List Facts → Form → ℕ → Bool
 serves g table fs start end =
     is_predictive g table fs

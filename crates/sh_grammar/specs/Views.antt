@@ -1,7 +1,10 @@
 -- The tables of the code as the lists that the definitions speak of.
-use Rattle.std.specs.Prelude.{ℕ, ◌-◌, List, [], ◌∷◌, reverse, take, drop, get_or, Bool, true, cond, nat_le}
+use Rattle.std.specs.Prelude.{nat_lt, if◌then◌else◌, ℕ, ◌-◌, List, [], ◌∷◌, reverse, take, drop, get_or, Bool, true, cond, nat_le}
 use Rattle.sh_grammar.specs.declared.symbols.Symbol.{Symbol}
+use Rattle.sh_lex.specs.declared.tokens.TokenKind.{TokenKind}
+use Rattle.sh_lex.specs.declared.tokens.TokenKind.TheVariants.{Word, Sign, Dim, Bang, Hash}
 use Rattle.sh_grammar.specs.Forms.{number}
+use Rattle.sh_grammar.specs.Lexemes.{Spelling}
 use Rattle.sh_grammar.specs.Grammar.{Grammar}
 use Rattle.sh_grammar.specs.declared.symbols.Beginning.{Beginning}
 use Rattle.sh_grammar.specs.declared.symbols.Beginning.TheVariants.{Operation, Empty, Other}
@@ -26,7 +29,8 @@ abbrev pub rise : ℕ → List ℕ → Bool
 rise n [] = true
 rise n (a ∷ cuts) = rise_from n a cuts
 
--- the grammar of a table: the symbols, where each alternative begins, and where the alternatives of each form begin
+-- the grammar of a table: the symbols, where each alternative begins, and where the alternatives of
+-- each form begin
 abbrev pub grammar_of : List Symbol → List ℕ → List ℕ → Grammar
 grammar_of symbols starts firsts n = get_or (pieces (pieces symbols starts) firsts) (number n) []
 
@@ -37,3 +41,19 @@ stack_of items = reverse items
 -- how a form begins, by what is known of it
 abbrev pub beginning_of : Facts → Beginning
 beginning_of f = cond f.begins Operation (cond f.empty Empty Other)
+
+-- the row in which the spellings of a kind and a length stand: words by their length, row 32 empty
+abbrev pub row_of : TokenKind → ℕ → ℕ
+row_of Word n = if nat_lt n 32 then n else 32
+row_of Sign n = 33
+row_of Dim n = 34
+row_of Bang n = 35
+row_of Hash n = 36
+row_of _ n = 32
+
+-- texts and their classes
+abbrev pub spelled : List (List ℕ) → List ℕ → List Spelling
+spelled [] classes = []
+spelled (text ∷ texts) [] = []
+spelled (text ∷ texts) (class ∷ classes) =
+    record { text = text; class = class } ∷ spelled texts classes

@@ -1,24 +1,29 @@
-ghost use Rattle.std.specs.Prelude.{◌≡◌, ◌+◌, ◌<◌, ◌≤◌, ◌^◌, length, map};
-ghost use Rattle.sh_grammar.specs.Lexemes.{signs, dims, bangs, hashes, words, keywords_of, number_in, class_of_kind, first_class, class_of, lexeme_of};
+ghost use Rattle.std.specs.Prelude.{◌≡◌, ◌<◌, ◌≤◌, ◌^◌, length, map};
+ghost use Rattle.sh_grammar.specs.Laid.{the_spellings, the_classes, the_spelling_rows};
+ghost use Rattle.sh_grammar.specs.Lexemes.{class_of_kind, class_in, class_of, lexeme_of};
+ghost use Rattle.sh_grammar.specs.Views.{row_of, spelled};
 
 use crate::lexemes::bytes_of;
-use crate::tables::{BANGS, DIMS, HASHES, SIGNS, WORDS};
+use crate::table::piece;
+use crate::tables::{CLASSES, SPELLING_ROWS, SPELLINGS};
 use sh_lex::{Token, TokenKind};
 
-/// The class of a token: a keyword's own, or that of the other tokens of its kind.
-#[tactic(auto, unfolding(crate::specs::Lexemes::class_of))]
+/// All words of the language are shorter.
+const LONG: usize = 32;
+
+/// The class of a token: that of a keyword, in either spelling, or that of the other tokens of its
+/// kind. Only keywords of the same kind and, of words, the same length are compared.
 pub(crate) fn class_of_token(text: &[u8], token: &Token) -> u16
     requires order { token.now.start ≤ token.now.end }
     requires within { token.now.end ≤ length text.now }
     ensures { result ≡ class_of (lexeme_of text.now token.now) }
 {
-    let kind = token.kind;
-    number_in(
-        keywords_of(kind),
-        bytes_of(text, token),
-        first_class(kind),
-        class_of_kind(kind),
-    )
+    let bytes = bytes_of(text, token);
+    let row = row_of(token.kind, bytes.len());
+    let rows = spelling_rows();
+    let spellings = piece(spellings(), rows, row);
+    let classes = piece(classes(), rows, row);
+    class_in(spellings, classes, bytes, class_of_kind(token.kind))
 }
 
 /// The class of the tokens of a kind that are no keywords.
@@ -28,85 +33,50 @@ fn class_of_kind(kind: TokenKind) -> u16
     kind as u16
 }
 
-/// The class of the first keyword of a kind.
-#[tactic(auto, unfolding(crate::specs::Lexemes::first_class, crate::specs::Lexemes::signs, crate::specs::Lexemes::dims, crate::specs::Lexemes::bangs, crate::specs::Lexemes::hashes))]
-fn first_class(kind: TokenKind) -> u16
-    ensures first { result ≡ first_class kind }
-    ensures few { result < 1000 }
+/// The row in which the spellings of a kind and a length stand. One row is empty.
+fn row_of(kind: TokenKind, length: usize) -> usize
+    ensures { result ≡ row_of kind length }
 {
     match kind {
-        TokenKind::Dim => 24,
-        TokenKind::Bang => 25,
-        TokenKind::Hash => 26,
-        TokenKind::Word => 27,
-        _ => 11,
+        TokenKind::Word if length < LONG => length,
+        TokenKind::Sign => 33,
+        TokenKind::Dim => 34,
+        TokenKind::Bang => 35,
+        TokenKind::Hash => 36,
+        _ => LONG,
     }
 }
 
-/// The keywords of a kind.
-fn keywords_of(kind: TokenKind) -> &'static [&'static str]
-    ensures all { map (λ w. w.now) result.now ≡ keywords_of kind }
-    ensures few { length result.now < 1000 }
+/// The class of a text among these texts, or else `other`.
+fn class_in(texts: &[&str], classes: &[u16], text: &[u8], other: u16) -> u16
+    requires { length texts.now ≤ length classes.now }
+    ensures { result ≡ class_in (spelled (map (λ w. w.now) texts.now) classes.now) text.now other }
 {
-    match kind {
-        TokenKind::Sign => the_signs(),
-        TokenKind::Dim => the_dims(),
-        TokenKind::Bang => the_bangs(),
-        TokenKind::Hash => the_hashes(),
-        TokenKind::Word => the_words(),
-        _ => &[],
-    }
-}
-
-#[tactic(auto, unfolding(crate::specs::Lexemes::signs))]
-fn the_signs() -> &'static [&'static str]
-    ensures all { map (λ w. w.now) result.now ≡ signs }
-    ensures few { length result.now < 1000 }
-{
-    &SIGNS
-}
-
-#[tactic(auto, unfolding(crate::specs::Lexemes::dims))]
-fn the_dims() -> &'static [&'static str]
-    ensures all { map (λ w. w.now) result.now ≡ dims }
-    ensures few { length result.now < 1000 }
-{
-    &DIMS
-}
-
-#[tactic(auto, unfolding(crate::specs::Lexemes::bangs))]
-fn the_bangs() -> &'static [&'static str]
-    ensures all { map (λ w. w.now) result.now ≡ bangs }
-    ensures few { length result.now < 1000 }
-{
-    &BANGS
-}
-
-#[tactic(auto, unfolding(crate::specs::Lexemes::hashes))]
-fn the_hashes() -> &'static [&'static str]
-    ensures all { map (λ w. w.now) result.now ≡ hashes }
-    ensures few { length result.now < 1000 }
-{
-    &HASHES
-}
-
-#[tactic(auto, unfolding(crate::specs::Lexemes::words))]
-fn the_words() -> &'static [&'static str]
-    ensures all { map (λ w. w.now) result.now ≡ words }
-    ensures few { length result.now < 1000 }
-{
-    &WORDS
-}
-
-/// The place of a text among these, counted from `first`, or else `other`.
-fn number_in(texts: &[&str], text: &[u8], first: u16, other: u16) -> u16
-    requires { first + length texts.now < 2 ^ 16 }
-    ensures { result ≡ number_in (map (λ w. w.now) texts.now) first text.now other }
-{
-    for (i, word) in texts.iter().enumerate() {
-        if word.as_bytes() == text {
-            return first + i as u16;
+    for (i, spelling) in texts.iter().enumerate() {
+        if spelling.as_bytes() == text {
+            return classes[i];
         }
     }
     other
+}
+
+#[tactic(auto, unfolding(crate::specs::Laid::the_spellings))]
+fn spellings() -> &'static [&'static str]
+    ensures { map (λ w. w.now) result.now ≡ the_spellings }
+{
+    &SPELLINGS
+}
+
+#[tactic(auto, unfolding(crate::specs::Laid::the_classes))]
+fn classes() -> &'static [u16]
+    ensures { result.now ≡ the_classes }
+{
+    &CLASSES
+}
+
+#[tactic(auto, unfolding(crate::specs::Laid::the_spelling_rows))]
+fn spelling_rows() -> &'static [u16]
+    ensures { result.now ≡ the_spelling_rows }
+{
+    &SPELLING_ROWS
 }

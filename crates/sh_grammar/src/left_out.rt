@@ -7,7 +7,7 @@ use crate::lexemes::bytes_of;
 use sh_base::Rule;
 use sh_lex::{Token, TokenKind};
 
-static LEFT_OUT_WORDS: [&str; 18] = [
+static LEFT_OUT_WORDS: [&str; 16] = [
     "f16",
     "bf16",
     "f32",
@@ -20,8 +20,6 @@ static LEFT_OUT_WORDS: [&str; 18] = [
     "loc",
     "attributes",
     "dense_resource",
-    "func.call",
-    "linalg.index",
     "linalg.map",
     "tensor.pad",
     "tensor.concat",
@@ -36,8 +34,8 @@ static INTEGER_BEGINNINGS: [&str; 3] = ["i", "si", "ui"];
 
 static WIDTHS: [&str; 5] = ["i1", "i8", "i16", "i32", "i64"];
 
-/// The code of a refused token, by whether an operation is due at it: `P3` where it belongs to a form that is left out by
-/// name, else `P2` where it is a word and an operation is due, else `P1`.
+/// The code of a refused token, by whether an operation is due at it: `P3` where it belongs to a form
+/// that is left out by name, else `P2` where it is a word and an operation is due, else `P1`.
 pub(crate) fn rule_of(text: &[u8], token: &Token, due: bool) -> Rule
     requires order { token.now.start ≤ token.now.end }
     requires within { token.now.end ≤ length text.now }

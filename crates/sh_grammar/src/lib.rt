@@ -3,6 +3,7 @@
 
 mod forms;
 mod keywords;
+mod laws;
 mod left_out;
 mod lexemes;
 mod machine;
@@ -13,6 +14,7 @@ mod table;
 mod tables;
 
 pub use forms::Form;
+pub use laws::{fronts_go_on, one_tree, one_way};
 pub use reader::read;
 pub use reading::{Reading, Stop};
 pub use symbols::{Beginning, Event, Symbol};

@@ -6,7 +6,8 @@ ghost use Rattle.sh_grammar.specs.Answer.{IsReading};
 ghost use Rattle.sh_grammar.specs.Lexemes.{lexeme_of, lexemes};
 ghost use Rattle.sh_grammar.specs.Predictive.{choice, Facts, is_predictive, may_begin_operation, serves};
 ghost use Rattle.sh_grammar.specs.Machine.{IsApt, IsMoved, IsStuck, Grows, whole};
-ghost use Rattle.sh_grammar.specs.Views.{grammar_of, pieces, stack_of, beginning_of};
+ghost use Rattle.sh_grammar.specs.Layout.{rules_of, choices_of};
+ghost use Rattle.sh_grammar.specs.Views.{stack_of, beginning_of};
 
 use crate::keywords::class_of_token;
 use crate::left_out::rule_of;
@@ -18,10 +19,11 @@ use std::alloc::{AllocError, Global};
 
 /// The alternative that the table takes for a form before a token.
 fn chosen<'a>(table: &Table<'a>, form: Form, class: u16) -> Option<(u16, &'a [Symbol])>
-    ensures some { IfSome result (λ r. IsAlternative (grammar_of table.now.symbols.now table.now.starts.now table.now.firsts.now) form r.0 r.1.now) }
-    ensures taken { IfSome result (λ r. choice (pieces table.now.choices.now table.now.rows.now) form class ≡ suc r.0) }
+    ensures some { IfSome result (λ r. IsAlternative (rules_of table.now) form r.0 r.1.now) }
+    ensures taken { IfSome result (λ r. choice (choices_of table.now) form class ≡ suc r.0) }
     ensures short { IfSome result (λ r. length r.1.now < 2 ^ 16) }
-    ensures none { IfNone result ((i : ℕ) → choice (pieces table.now.choices.now table.now.rows.now) form class ≡ suc i → slice_get (grammar_of table.now.symbols.now table.now.starts.now table.now.firsts.now form) i ≡ None) }
+    ensures none { IfNone result ((i : ℕ) → choice (choices_of table.now) form class ≡ suc i →
+        slice_get (rules_of table.now form) i ≡ None) }
 {
     let choice = table.choice(form, class);
     if choice == 0 {
@@ -55,13 +57,14 @@ pub(crate) fn take_token(
     ghost facts: { List Facts }
     requires order { token.now.start ≤ token.now.end }
     requires within { token.now.end ≤ length text.now }
-    requires predictive { IsTrue (is_predictive (grammar_of table.now.symbols.now table.now.starts.now table.now.firsts.now) (pieces table.now.choices.now table.now.rows.now) facts) }
+    requires predictive { IsTrue (is_predictive (rules_of table.now) (choices_of table.now) facts) }
     requires apt { IsApt facts (stack_of stack.old.items) }
-    ensures taken { IfOk result (λ b. OnTrue b (IsMoved (grammar_of table.now.symbols.now table.now.starts.now table.now.firsts.now) facts
+    ensures taken { IfOk result (λ b. OnTrue b (IsMoved (rules_of table.now) facts
         (stack_of stack.old.items) (lexeme_of text.now token.now ∷ []) events.old.items
         (stack_of stack.new.items) events.new.items)) }
     ensures grown { IfOk result (λ _. Grows events.old.items events.new.items) }
-    ensures stuck { IfOk result (λ b. OnFalse b (IsStuck (grammar_of table.now.symbols.now table.now.starts.now table.now.firsts.now) (stack_of stack.old.items) (lexeme_of text.now token.now))) }
+    ensures stuck { IfOk result (λ b. OnFalse b (IsStuck (rules_of table.now)
+        (stack_of stack.old.items) (lexeme_of text.now token.now))) }
 {
     let class = class_of_token(text, token);
     while let Some(symbol) = stack.pop() {
@@ -121,8 +124,9 @@ pub(crate) fn run(
     ghost facts: { List Facts }
     requires tokens { HasTokens text.now tokens.now }
     requires beginnings { table.now.beginnings.now ≡ map beginning_of facts }
-    requires serves { IsTrue (serves (grammar_of table.now.symbols.now table.now.starts.now table.now.firsts.now) (pieces table.now.choices.now table.now.rows.now) facts start 10) }
-    ensures { IfOk result (IsReading (grammar_of table.now.symbols.now table.now.starts.now table.now.firsts.now) (whole start 10) (lexemes text.now tokens.now)) }
+    requires serves { IsTrue (serves (rules_of table.now) (choices_of table.now) facts start 10) }
+    ensures { IfOk result (IsReading (rules_of table.now) (whole start 10)
+        (lexemes text.now tokens.now)) }
 {
     let mut stack = Vec::new(alloc);
     let mut events = Vec::new(alloc);

@@ -15,9 +15,10 @@ use std::alloc::Global;
 
 /// Reads the tokens of a text by the grammar: a file and the end.
 ///
-/// `Whole` has the steps of the one tree that the tokens spell. `Stopped` has the first token such that the tokens up to
-/// and with it are no front of a file, its code, and the steps over the tokens before it. The rules on names (an alias is
-/// new, a `#name` is an alias, a device item names the function behind it) aren't asked here: they are read off the steps.
+/// `Whole` has the steps of the one tree that the tokens spell. `Stopped` has the first token such
+/// that the tokens up to and with it are no front of a file, its code, and the steps over the tokens
+/// before it. The rules on names (an alias is new, a `#name` is an alias, a device item names the
+/// function behind it) aren't asked here: they are read off the steps.
 /// Each token costs a bounded number of steps, and nothing recurses on nesting.
 pub fn read(alloc: Global, text: &[u8], tokens: &[Token]) -> Result<Reading, Mem>
     requires { HasTokens text.now tokens.now }

@@ -13,10 +13,12 @@ pub enum Reading {
 /// The first token with which no file goes on.
 #[derive(Drop)]
 pub struct Stop {
-    /// The steps over the tokens before it, with which every file begins that goes on from those tokens.
+    /// The steps over the tokens before it, with which every file begins that goes on from those
+    /// tokens.
     pub events: Vec<Event>,
     /// Its number, from 0.
     pub token: usize,
-    /// `P3` for a token of a form that is left out by name, else `P2` for a word where an operation is due, else `P1`.
+    /// `P3` for a token of a form that is left out by name, else `P2` for a word where an operation is
+    /// due, else `P1`.
     pub rule: Rule,
 }

@@ -12,7 +12,8 @@ pub(crate) struct Table<'a> {
     pub starts: &'a [u16],
     /// Where the alternatives of each form begin among the alternatives, and their end.
     pub firsts: &'a [u16],
-    /// Rows of choices: by the class of the next token the alternative to take, counted from 1, or 0.
+    /// Rows of choices: by the class of the next token the alternative to take, counted from 1, or
+    /// 0.
     pub choices: &'a [u16],
     /// Where the row of each form begins among the choices, and their end.
     pub rows: &'a [u16],
@@ -25,7 +26,7 @@ pub(crate) struct Table<'a> {
 }
 
 /// The piece of a list between a cut and the next.
-fn piece<'a, T>(items: &'a [T], cuts: &[u16], at: usize) -> &'a [T]
+pub(crate) fn piece<'a, T>(items: &'a [T], cuts: &[u16], at: usize) -> &'a [T]
     requires rise { IsTrue (rise (length items.now) cuts.now) }
     requires within { at + 1 < length cuts.now }
     ensures piece { slice_get (pieces items.now cuts.now) at ≡ Some result.now }
@@ -40,13 +41,14 @@ impl<'a> Table<'a> {
     ghost use Rattle.sh_grammar.specs.declared.symbols.Beginning.TheVariants.{Other};
     ghost use Rattle.sh_grammar.specs.Forms.{number};
     ghost use Rattle.sh_grammar.specs.Predictive.{choice};
-    ghost use Rattle.sh_grammar.specs.Views.{grammar_of};
+    ghost use Rattle.sh_grammar.specs.Layout.{rules_of, choices_of};
 
     /// What a form may be by one of its alternatives.
     pub fn body(&self, form: Form, alternative: u16) -> Option<&'a [Symbol]>
-        ensures some { IfSome result (λ b. IsAlternative (grammar_of self.now.symbols.now self.now.starts.now self.now.firsts.now) form alternative b.now) }
+        ensures some { IfSome result (λ b.
+            IsAlternative (rules_of self.now) form alternative b.now) }
         ensures short { IfSome result (λ b. length b.now < 2 ^ 16) }
-        ensures none { IfNone result (slice_get (grammar_of self.now.symbols.now self.now.starts.now self.now.firsts.now form) alternative ≡ None) }
+        ensures none { IfNone result (slice_get (rules_of self.now form) alternative ≡ None) }
     {
         let index = form.number();
         if self.firsts.len() <= index + 1 {
@@ -61,7 +63,7 @@ impl<'a> Table<'a> {
 
     /// The choice for a form before a token: 0, or 1 and the number of the alternative to take.
     pub fn choice(&self, form: Form, class: u16) -> u16
-        ensures { result ≡ choice (pieces self.now.choices.now self.now.rows.now) form class }
+        ensures { result ≡ choice (choices_of self.now) form class }
     {
         let index = form.number();
         if self.rows.len() <= index + 1 {

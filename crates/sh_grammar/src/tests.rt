@@ -22,6 +22,30 @@ const SUM: &str = "module {
 }
 ";
 
+/// The same in the former spelling.
+const FORMER: &str = "module {
+  mesh.mesh @g(shape = 2)
+  func.func @f(%a: tensor<4xi32>, %b: tensor<4xi32>) -> tensor<4xi32> {
+    %s = mesh.sharding @g split_axes = [[0]] : !mesh.sharding
+    %a1 = mesh.shard %a to %s : tensor<4xi32>
+    %b1 = mesh.shard %b to %s : tensor<4xi32>
+    %c = arith.addi %a1, %b1 : tensor<4xi32>
+    %c1 = mesh.shard %c to %s : tensor<4xi32>
+    return %c1 : tensor<4xi32>
+  }
+  shardrun.call @f(dense<[2147483647, 1, 2, 3]> : tensor<4xi32>, dense<1> : tensor<4xi32>)
+}
+";
+
+/// A word where that module adds.
+const FORMER_REFUSED: &str = "module {
+  mesh.mesh @g(shape = 2)
+  func.func @f(%a: tensor<4xi32>, %b: tensor<4xi32>) -> tensor<4xi32> {
+    %s = mesh.sharding @g split_axes = [[0]] : !mesh.sharding
+    %a1 = mesh.shard %a to %s : tensor<4xi32>
+    %b1 = mesh.shard %b to %s : tensor<4xi32>
+    %c = mesh.broadcast %a1, %b1 : tensor<4xi32>";
+
 /// A module of two layers, with a generic operation.
 const NET: &str = "#map = affine_map<(d0, d1) -> (d0, d1)>
 module {
@@ -58,6 +82,8 @@ module @m {}
 shard.grid @g(shape = 4) func.func private @f() { func.return : }
 #to = affine_map<(module, to, f32) -> ()> #arith.overflow = affine_map<() -> (d0)>
 shardrun.device @f on @g(tensor<4x?xi32> split_axes = [[0, 1], []] halo_sizes = [1, 1] sharded_dims_offsets = [0, 2], i1 split_axes = []) -> () func.func public @f(%x : tensor<?xi64>) -> (i16, tensor<i8>) { return %x, %y : i16, i8 }
+shardrun.device @f on @g() -> () func.func @f() { %c = call @g(%a, %b) : (i8, tensor<?xi8>) -> tensor<?xi8> return }
+#m = affine_map<(mesh.mesh, shard.grid, mesh_axes) -> (shard.grid, mesh.update_halo)>
 shardrun.call @f() shardrun.call @f(dense<\"0x00\"> : i8, dense<> : i1, dense<[[true, false], [-1]]> : tensor<2x2xi1>)";
 
 /// Operations of functions, one form or more a line.
@@ -79,6 +105,11 @@ const OPERATIONS: &str =
 %c = linalg.reduce { arith.addi {overflowFlags = #arith.overflow<none>} } ins(%a : i8) outs(%b : i8) dimensions = [1]
 %c = linalg.reduce ins(%a : i8) outs(%b : i8) dimensions = [0] (%i: i8, %o: i8) { %r = arith.addi %o, %i : i8 linalg.yield %r : i8 }
 %c = linalg.generic {indexing_maps = [affine_map<(a) -> (a)>], iterator_types = []} outs(%b : i8) { ^bb0(%o: i8): %r = arith.constant 0 : i8 linalg.yield %r : i8 } -> i8
+%c = linalg.generic {indexing_maps = [], iterator_types = []} outs(%b : i8) { ^bb0(%o: i8): %i = linalg.index 0 : index %r = arith.index_cast %i : index to i8 %t = arith.addi %r, %o : i8 linalg.yield %t : i8 } -> i8
+%c = call @g() : () -> i8 %d = func.call @g(%a, %b) : (i8, i8) -> tensor<2xi8>
+%c = mesh.all_gather %a on @g mesh_axes = [0] gather_axis = 0 : i8 -> i8 %d = mesh.all_slice %a on @g grid_axes = [0] slice_axis = 1 : i8 -> i8
+%c = mesh.all_reduce %a on @g mesh_axes = [0] : i8 -> i8 %d = mesh.reduce_scatter %a on @g scatter_axis = 0 : i8 -> i8
+%c = mesh.all_to_all %a on @g split_axis = 0 concat_axis = 1 : i8 -> i8 %d = mesh.shift %a on @g shift_axis = 0 offset = 1 : i8 -> i8
 %s = shard.sharding @g split_axes = [[], [0]] halo_sizes = [1, 1] : !shard.sharding
 %s = shard.sharding @g split_axes = [[0]] sharded_dims_offsets = [0, 2] : !shard.sharding %a = shard.shard %b to %s annotate_for_users : i8
 %c = shard.all_gather %a on @g grid_axes = [0] gather_axis = 0 : i8 -> i8 %d = shard.all_slice %a on @g slice_axis = 1 : i8 -> i8
@@ -94,6 +125,8 @@ const OPERATIONS: &str =
 const REFUSALS: &str = "P1 1:9  | module {
 P1 1:11 func.func | module {} func.func
 P1 1:1 mesh.foo | mesh.foo
+P1 1:1 mesh.broadcast | mesh.broadcast
+P1 1:1 mesh.grid | mesh.grid @g(shape = 2)
 P1 1:23 ?x | shard.grid @g(shape = ?x2)
 P1 1:27  | func.func @f(%a: tensor<4x
 P3 1:18 index | func.func @f(%a: index)
@@ -112,8 +145,18 @@ P1 1:18 } | func.func @f() { }
 P3 1:18 scf.for | func.func @f() { scf.for
 P3 1:18 \"arith.addi\" | func.func @f() { \"arith.addi\"
 P3 1:18 + | func.func @f() { + 
-P3 1:23 func.call | func.func @f() { %a = func.call @g()
-P3 1:23 linalg.index | func.func @f() { %a = linalg.index 0
+P2 1:18 func.call | func.func @f() { func.call @g()
+P2 1:23 mesh.update_halo | func.func @f() { %a = mesh.update_halo
+P2 1:23 mesh.sharded | func.func @f() { %a = mesh.sharded
+P2 1:23 callee | func.func @f() { %a = callee
+P1 1:59 !mesh.shard | func.func @f() { %s = shard.sharding @g split_axes = [] : !mesh.shard
+P1 1:31 on | func.func @f() { %a = call @g on
+P1 1:35 i8 | func.func @f() { %a = call @g() : i8
+P1 1:41 ( | func.func @f() { %a = call @g() : () -> (i8)
+P2 1:23 linalg.index | func.func @f() { %a = linalg.index 0 : index
+P2 1:23 arith.index_cast | func.func @f() { %a = arith.index_cast %b : index to i8
+P2 1:78 linalg.index | func.func @f() { %a = linalg.reduce ins(:) outs(:) dimensions = [] () { %b = linalg.index 0
+P2 1:39 linalg.index | func.func @f() { %a = linalg.reduce { linalg.index
 P2 1:23 to | func.func @f() { %a = to
 P1 1:23 %b | func.func @f() { %a = %b
 P1 1:21 arith.addi | func.func @f() { %a arith.addi
@@ -127,6 +170,16 @@ P1 1:37 foo | func.func @f() { %a = linalg.reduce foo
 P2 1:78 tensor.empty | func.func @f() { %a = linalg.reduce ins(:) outs(:) dimensions = [] () { %b = tensor.empty
 P2 1:73 return | func.func @f() { %a = linalg.reduce ins(:) outs(:) dimensions = [] () { return
 P1 1:28 } | func.func @f() { return %a }
+P3 1:150 index | func.func @f() { %a = linalg.generic {indexing_maps = [], iterator_types = []} outs(:) { ^bb(): %i = linalg.index 0 : index %r = arith.addi %i, %i : index
+P3 1:119 index | func.func @f() { %a = linalg.generic {indexing_maps = [], iterator_types = []} outs(:) { ^bb(): %r = arith.extsi %o : index to i8
+P1 1:119 i8 | func.func @f() { %a = linalg.generic {indexing_maps = [], iterator_types = []} outs(:) { ^bb(): %i = linalg.index 0 : i8
+P1 1:115 %o | func.func @f() { %a = linalg.generic {indexing_maps = [], iterator_types = []} outs(:) { ^bb(): %i = linalg.index %o : index
+P1 1:124 i8 | func.func @f() { %a = linalg.generic {indexing_maps = [], iterator_types = []} outs(:) { ^bb(): %r = arith.index_cast %o : i8 to index
+P3 1:133 index | func.func @f() { %a = linalg.generic {indexing_maps = [], iterator_types = []} outs(:) { ^bb(): %r = arith.index_cast %o : index to index
+P1 1:133 tensor | func.func @f() { %a = linalg.generic {indexing_maps = [], iterator_types = []} outs(:) { ^bb(): %r = arith.index_cast %o : index to tensor<i8>
+P2 1:102 tensor.empty | func.func @f() { %a = linalg.generic {indexing_maps = [], iterator_types = []} outs(:) { ^bb(): %r = tensor.empty() : i8
+P2 1:102 call | func.func @f() { %a = linalg.generic {indexing_maps = [], iterator_types = []} outs(:) { ^bb(): %r = call @g()
+P3 1:115 index | func.func @f() { %a = linalg.generic {indexing_maps = [], iterator_types = []} outs(:) { ^bb(): linalg.yield %i : index
 P3 1:29 + | #m = affine_map<(d0) -> (d0 + 1)>
 P3 1:18 f16 | func.func @f(%a: f16)
 P3 1:18 bf16 | func.func @f(%a: bf16)
@@ -139,8 +192,8 @@ P3 1:18 overflow | func.func @f(%a: overflow)
 P3 1:18 loc | func.func @f(%a: loc)
 P3 1:18 attributes | func.func @f(%a: attributes)
 P3 1:18 dense_resource | func.func @f(%a: dense_resource)
-P3 1:18 func.call | func.func @f(%a: func.call)
-P3 1:18 linalg.index | func.func @f(%a: linalg.index)
+P1 1:18 func.call | func.func @f(%a: func.call)
+P1 1:18 linalg.index | func.func @f(%a: linalg.index)
 P3 1:18 linalg.map | func.func @f(%a: linalg.map)
 P3 1:18 tensor.pad | func.func @f(%a: tensor.pad)
 P3 1:18 tensor.concat | func.func @f(%a: tensor.concat)
@@ -158,8 +211,7 @@ P3 1:18 overflow | func.func @f() { overflow
 P3 1:18 loc | func.func @f() { loc
 P3 1:18 attributes | func.func @f() { attributes
 P3 1:18 dense_resource | func.func @f() { dense_resource
-P3 1:18 func.call | func.func @f() { func.call
-P3 1:18 linalg.index | func.func @f() { linalg.index
+P2 1:18 linalg.index | func.func @f() { linalg.index
 P3 1:18 linalg.map | func.func @f() { linalg.map
 P3 1:18 tensor.pad | func.func @f() { tensor.pad
 P3 1:18 tensor.concat | func.func @f() { tensor.concat
@@ -201,6 +253,7 @@ fn assert_file(rt: &impl Abort, alloc: Global, text: &str) -> Result<(), Fail> {
 fn reads_files_and_each_form_of_operation(rt: HostRuntime) -> Result<(), Fail> {
     let alloc = rt.alloc();
     assert_file(&rt, alloc, SUM)?;
+    assert_file(&rt, alloc, FORMER)?;
     assert_file(&rt, alloc, NET)?;
     for text in FILES.lines() {
         assert_file(&rt, alloc, text)?;
@@ -220,6 +273,14 @@ fn refuses_the_first_token_with_which_no_file_goes_on(rt: HostRuntime) -> Result
         let answer = shown(&rt, alloc, text)?;
         assert_eq!(rt; answer.as_str(), want, "{text}");
     }
+    Ok(())
+}
+
+#[test]
+fn refuses_other_words_of_the_former_name(rt: HostRuntime) -> Result<(), Fail> {
+    let alloc = rt.alloc();
+    let answer = shown(&rt, alloc, FORMER_REFUSED)?;
+    assert_eq!(rt; answer.as_str(), "P2 7:10 mesh.broadcast");
     Ok(())
 }
 

@@ -1,7 +1,8 @@
 use Rattle.std.proofs.Common.{[], take}
 use Rattle.sh_grammar.specs.Lexemes.{lexemes}
 use Rattle.sh_grammar.specs.Machine.{IsMoved, whole}
-use Rattle.sh_grammar.specs.Views.{grammar_of, stack_of}
+use Rattle.sh_grammar.specs.Layout.{rules_of}
+use Rattle.sh_grammar.specs.Views.{stack_of}
 use Rattle.sh_grammar.proofs.machine.run.Given as goal
 
 abbrev pub ghost-is_operation_due : goal.ghost-is_operation_due
@@ -12,4 +13,4 @@ ghost-take_token g a = g.facts
 
 abbrev pub invariant-loop-i : goal.invariant-loop-i
 invariant-loop-i g l =
-    IsMoved (grammar_of l.table.symbols.now l.table.starts.now l.table.firsts.now) g.facts (whole l.fn.start 10) (take l.i (lexemes l.text l.tokens)) [] (stack_of l.stack.items) l.events.items
+    IsMoved (rules_of l.table) g.facts (whole l.fn.start 10) (take l.i (lexemes l.text l.tokens)) [] (stack_of l.stack.items) l.events.items
