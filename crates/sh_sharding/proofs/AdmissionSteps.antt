@@ -1,15 +1,16 @@
 -- The answers of admission, rule by rule.
-use Rattle.std.proofs.Common.{◌≡◌, ◌≢◌, ℕ, ◌+◌, ◌*◌, ◌%◌, ◌<◌, ◌≤◌, inl, inr, List, [], ◌∷◌, length, get_or, map, take, drop, Bool, true, false, cond, refl, ap, ap₂, sym, ◌∙◌, arith, subst, ℤ, pos}
+use Rattle.sh_base.specs.Shape.{max_cells}
+use Rattle.std.proofs.Common.{◌≡◌, ◌≢◌, ℕ, ◌+◌, ◌*◌, ◌<◌, ◌≤◌, inl, inr, List, [], ◌∷◌, length, get_or, map, take, drop, Bool, true, false, cond, refl, ap, ap₂, sym, ◌∙◌, arith, subst, ℤ, pos}
 use Rattle.std.specs.Prelude.{◌==◌, count_by}
 use Rattle.std.specs.List.{All, AllByRecursion}
-use Rattle.std.proofs.lemmas.List.Elements.{All-from_recursion, recursion_from_All}
-use Rattle.sh_base.specs.declared.rules.Rule.TheVariants.{A1, A2, A3, A7, A8}
+use Rattle.std.proofs.lemmas.List.Elements.{All-from_recursion}
+use Rattle.sh_base.specs.declared.rules.Rule.TheVariants.{A1, A2, A3, A5, A7, A8}
 use Rattle.sh_grid.specs.Grid.{GridValue, IsGrid, AreAxesOf}
 use Rattle.sh_ir.specs.declared.types.RawSharding.{RawSharding}
 use Rattle.sh_sharding.specs.declared.shardings.Dimension.{Dimension}
-use Rattle.sh_sharding.specs.Sharding.{parts_of, unsplit, counted_cells, IsMarked}
-use Rattle.sh_sharding.specs.Admission.{natural, IsBelow, listed_axes, listed, is_split, offset_count, halo_count, with_mark, haloed, marked, with_halos, IsNatural, HalosFit, sharding_of, Keeps, KeepsLists, KeepsDivisions, KeepsHalos, IsLeastBroken}
-use Rattle.sh_sharding.proofs.AdmittedLaws.{listed_below, has_axes, take-nil, drop-nil, marked_even, marked_written, extents-marked, extents-listed}
+use Rattle.sh_sharding.specs.Sharding.{unsplit, counted_cells, IsMarked, is_split}
+use Rattle.sh_sharding.specs.Admission.{natural, IsBelow, listed_axes, listed, offset_count, halo_count, with_mark, haloed, marked, with_halos, IsNatural, HalosFit, sharding_of, Keeps, KeepsLists, KeepsHalos, IsLeastBroken}
+use Rattle.sh_sharding.proofs.AdmittedLaws.{listed_below, has_axes, take-nil, drop-nil, marked_balanced, marked_written, extents-marked, extents-listed}
 use Rattle.sh_sharding.proofs.PartLaws.{extents_few}
 use Rattle.std.proofs.lemmas.List.Recursion.{is_count_by}
 use Rattle.sh_sharding.proofs.Cases.{none_or_some, not_both}
@@ -51,12 +52,6 @@ pub axes_asked : (g : GridValue) (raw : RawSharding) (s : List ℕ) (ds : List D
 axes_asked g raw s ds few h e =
     subst (All (λ d. AreAxesOf (length g.extents) d.axes)) (sym e) (All-from_recursion (λ d. AreAxesOf (length g.extents) d.axes) (listed raw.split s) (has_axes g raw s few h).each)
 
-pub kept_even : (g : GridValue) (raw : RawSharding) (s : List ℕ) (ds : List Dimension) → raw.offsets ≡ [] → ds ≡ listed raw.split s → All (λ d. d.extent % parts_of g.extents d ≡ 0) ds → KeepsDivisions g raw s
-kept_even g raw s ds none e h = record {
-  even = λ given. subst (All (λ d. d.extent % parts_of g.extents d ≡ 0)) e h;
-  offsets = λ given. absurd (given none);
-}
-
 -- ---- halos
 
 pub no_halos_left : (g : List ℕ) (lists : List (List ℤ)) (s : List ℕ) (os : List ℤ) → marked g (listed lists s) os ≡ with_halos (marked g (listed lists s) os) []
@@ -75,14 +70,12 @@ count_split : (g : List ℕ) (ds : List Dimension) (os : List ℤ) → map is_sp
 count_split g [] os = refl
 count_split g (d ∷ ds) os = ap (λ z. is_split d ∷ z) (count_split g ds (drop (offset_count g d) os))
 
-pub all_marked : (g : GridValue) (raw : RawSharding) (s : List ℕ) → IsGrid g.extents → KeepsLists g raw s → KeepsDivisions g raw s → AllByRecursion (IsMarked g.extents) (marked g.extents (listed raw.split s) raw.offsets)
+pub all_marked : (g : GridValue) (raw : RawSharding) (s : List ℕ) → IsGrid g.extents → KeepsLists g raw s → Keeps A5 g raw s → AllByRecursion (IsMarked g.extents) (marked g.extents (listed raw.split s) raw.offsets)
 all_marked g raw s ok lists divisions =
     let axes = has_axes g raw s ok.few lists in
     elim (none_or_some raw.offsets) [
-      | inl none ↦
-          let even = recursion_from_All (λ d. d.extent % parts_of g.extents d ≡ 0) (listed raw.split s) (divisions.even none) in
-          subst (λ os. AllByRecursion (IsMarked g.extents) (marked g.extents (listed raw.split s) os)) (sym none) (marked_even g.extents (listed raw.split s) ok axes.each even)
-      | inr given ↦ marked_written g.extents (listed raw.split s) raw.offsets axes.each (divisions.offsets given)
+      | inl none ↦ subst (λ os. AllByRecursion (IsMarked g.extents) (marked g.extents (listed raw.split s) os)) (sym none) (marked_balanced g.extents (listed raw.split s) ok axes.each)
+      | inr given ↦ marked_written g.extents (listed raw.split s) raw.offsets ok axes.each (divisions given)
     ]
 
 fits_none : (g : List ℕ) (ds : List Dimension) → AllByRecursion (HalosFit g) (with_halos ds [])
@@ -119,32 +112,32 @@ split_marked g ds os = sym (splits_is (marked g ds os)) ∙ splits_marked g ds o
 pub count_read : (g : GridValue) (raw : RawSharding) (s : List ℕ) (ds : List Dimension) (n : ℕ) → ds ≡ marked g.extents (listed raw.split s) raw.offsets → n ≡ count_by is_split ds → n ≡ count_by is_split (listed raw.split s)
 count_read g raw s ds n e en = en ∙ ap (count_by is_split) e ∙ split_marked g.extents (listed raw.split s) raw.offsets
 
-pub least_A7 : (g : GridValue) (raw : RawSharding) (s : List ℕ) (halos : List ℤ) (n : ℕ) (r : Bool) → KeepsLists g raw s → KeepsDivisions g raw s → halos ≡ raw.halos → raw.halos ≢ [] → raw.offsets ≡ [] → n ≡ count_by is_split (listed raw.split s)
+pub least_A7 : (g : GridValue) (raw : RawSharding) (s : List ℕ) (halos : List ℤ) (n : ℕ) (r : Bool) → KeepsLists g raw s → Keeps A5 g raw s → halos ≡ raw.halos → raw.halos ≢ [] → raw.offsets ≡ [] → n ≡ count_by is_split (listed raw.split s)
     → r ≡ false → ((length halos ≡ 2 * n) × All IsNatural halos → r ≡ true) → IsLeastBroken A7 g raw s
 least_A7 g raw s halos n r lists divisions eh some none en failed passes = record {
   broken = λ kept.
       let both = kept some in
       let long : length halos ≡ 2 * n = ap length eh ∙ both.0 ∙ sym (ap (λ z. 2 * z) en) in
       not_both r (passes (long, subst (All IsNatural) (sym eh) both.1)) failed;
-  earlier = (lists.axes, (lists.once, (lists.few, (divisions.even, (divisions.offsets, ((λ given. none), tt))))));
+  earlier = (lists.axes, (lists.once, (lists.few, (divisions, ((λ given. none), tt)))));
 }
 
 pub counted_A7 : (g : GridValue) (raw : RawSharding) (s : List ℕ) (halos : List ℤ) (n : ℕ) → halos ≡ raw.halos → n ≡ count_by is_split (listed raw.split s) → (length halos ≡ 2 * n) × All IsNatural halos → Keeps A7 g raw s
 counted_A7 g raw s halos n eh en h = λ some. (sym (ap length eh) ∙ h.0 ∙ ap (λ z. 2 * z) en, subst (All IsNatural) eh h.1)
 
-pub least_A8 : (g : GridValue) (raw : RawSharding) (s : List ℕ) → KeepsLists g raw s → KeepsDivisions g raw s → raw.offsets ≡ [] → Keeps A7 g raw s → ¬ AllByRecursion (HalosFit g.extents) (sharding_of g raw s).dimensions → IsLeastBroken A8 g raw s
+pub least_A8 : (g : GridValue) (raw : RawSharding) (s : List ℕ) → KeepsLists g raw s → Keeps A5 g raw s → raw.offsets ≡ [] → Keeps A7 g raw s → ¬ AllByRecursion (HalosFit g.extents) (sharding_of g raw s).dimensions → IsLeastBroken A8 g raw s
 least_A8 g raw s lists divisions none counted misfit = record {
   broken = λ kept. misfit kept.0;
-  earlier = (lists.axes, (lists.once, (lists.few, (divisions.even, (divisions.offsets, ((λ given. none), (counted, tt)))))));
+  earlier = (lists.axes, (lists.once, (lists.few, (divisions, ((λ given. none), (counted, tt))))));
 }
 
-pub marked_asked : (g : GridValue) (raw : RawSharding) (s : List ℕ) (ds : List Dimension) → IsGrid g.extents → KeepsLists g raw s → KeepsDivisions g raw s → ds ≡ marked g.extents (listed raw.split s) raw.offsets → All (IsMarked g.extents) ds
+pub marked_asked : (g : GridValue) (raw : RawSharding) (s : List ℕ) (ds : List Dimension) → IsGrid g.extents → KeepsLists g raw s → Keeps A5 g raw s → ds ≡ marked g.extents (listed raw.split s) raw.offsets → All (IsMarked g.extents) ds
 marked_asked g raw s ds ok lists divisions e = subst (All (IsMarked g.extents)) (sym e) (All-from_recursion (IsMarked g.extents) (marked g.extents (listed raw.split s) raw.offsets) (all_marked g raw s ok lists divisions))
 
-pub small_asked : (g : GridValue) (raw : RawSharding) (s : List ℕ) (ds : List Dimension) → counted_cells s ≤ 1048576 → ds ≡ marked g.extents (listed raw.split s) raw.offsets → All (λ d. d.extent ≤ 1048576) ds
+pub small_asked : (g : GridValue) (raw : RawSharding) (s : List ℕ) (ds : List Dimension) → counted_cells s ≤ max_cells → ds ≡ marked g.extents (listed raw.split s) raw.offsets → All (λ d. d.extent ≤ max_cells) ds
 small_asked g raw s ds small e =
     let same : map (λ d. d.extent) ds ≡ s = ap (map (λ d. d.extent)) e ∙ extents-marked g.extents (listed raw.split s) raw.offsets ∙ extents-listed raw.split s in
-    All-from_recursion (λ d. d.extent ≤ 1048576) ds (extents_few ds 1048576 (rw same small))
+    All-from_recursion (λ d. d.extent ≤ max_cells) ds (extents_few ds max_cells (rw same small))
 
 pub kept_halos : (g : GridValue) (raw : RawSharding) (s : List ℕ) (ds : List Dimension) (halos : List ℤ) (out : List Dimension) → raw.offsets ≡ [] → Keeps A7 g raw s → ds ≡ marked g.extents (listed raw.split s) raw.offsets → halos ≡ raw.halos
     → AllByRecursion (HalosFit g.extents) (with_halos ds halos) → out ≡ with_halos ds halos → KeepsHalos g raw s × (out ≡ (sharding_of g raw s).dimensions)

@@ -4,18 +4,21 @@ use Rattle.std.specs.List.{AllByRecursion, All}
 use Rattle.std.proofs.lemmas.List.{length-map}
 use Rattle.std.proofs.lemmas.List.Elements.{All-from_recursion}
 use Rattle.sh_base.specs.declared.rules.Rule.{Rule}
-use Rattle.sh_base.specs.declared.rules.Rule.TheVariants.{A1, A2, A3, A4, A5, A6, A7, A8}
-use Rattle.sh_base.specs.Shape.{cell_count}
+use Rattle.sh_base.specs.declared.rules.Rule.TheVariants.{A1, A2, A3, A5, A6, A7, A8}
+use Rattle.sh_base.specs.Shape.{cell_count, max_cells}
 use Rattle.sh_grid.specs.Grid.{GridValue, IsGrid, AreAxesOf}
 use Rattle.sh_ir.specs.declared.types.RawSharding.{RawSharding}
 use Rattle.sh_sharding.specs.declared.shardings.Dimension.{Dimension}
-use Rattle.sh_sharding.specs.Sharding.{parts_of, local_extent, local_shape, largest_local, whole_of, axes_of, counted_cells, HasNoHalos, IsEven, IsMarked, IsSharding, IsHeld}
-use Rattle.sh_sharding.specs.Admission.{listed, halo_count, haloed, marked, with_halos, HalosFit, sharding_of, Keeps, KeepsLists, KeepsDivisions, KeepsHalos, IsAdmitted, IsLeastBroken}
-use Rattle.sh_sharding.proofs.PartLaws.{axes_of-each, extents_few}
+use Rattle.sh_sharding.specs.declared.views.DimensionView.{DimensionView}
+use Rattle.sh_sharding.specs.Views.{largest_described, IsOrdered, IsShort, AreViewsOf}
+use Rattle.sh_sharding.proofs.OwnViewLaws.{HasSmall, own_views, short_views, map-described}
+use Rattle.sh_sharding.specs.Sharding.{parts_of, local_shape, largest_local, whole_of, axes_of, counted_cells, HasNoHalos, AreBalanced, IsMarked, IsSharding, IsHeld}
+use Rattle.sh_sharding.specs.Admission.{listed, halo_count, haloed, marked, with_halos, HalosFit, sharding_of, Keeps, KeepsLists, KeepsHalos, KeepsAllButSize, IsAdmitted, IsLeastBroken}
+use Rattle.sh_sharding.proofs.PartLaws.{extents_few}
 use Rattle.sh_sharding.proofs.DivisionLaws.{halo_small, some_parts}
 use Rattle.sh_sharding.proofs.AdmittedLaws.{axes-with_halos, axes-marked, extents-with_halos, extents-marked, extents-listed, has_axes, marked_whole, haloed_all, halos_none, offsets_none}
 use Rattle.sh_sharding.proofs.AdmissionSteps.{all_marked}
-use Rattle.sh_sharding.proofs.LargestLaws.{local_cells-le, largest_device}
+use Rattle.sh_sharding.proofs.LargestLaws.{cells_fit, largest_fit}
 use Rattle.sh_sharding.proofs.Cases.{none_or_some, not_both}
 
 -- ---- the dimensions with their halos
@@ -28,28 +31,16 @@ haloed_marked : (g : List ℕ) (ds : List Dimension) (hs : List ℤ) → AllByRe
 haloed_marked g [] hs h = tt
 haloed_marked g (d ∷ ds) hs h = (still_marked g d (take (halo_count d) hs) h.0, haloed_marked g ds (drop (halo_count d) hs) h.1)
 
--- no number of a dimension is large
-abbrev pub HasSmall : Dimension → Type 0
-HasSmall d = (d.extent ≤ 1048576) × (d.low ≤ d.extent) × (d.high ≤ d.extent)
-
-small_one : (g : List ℕ) (d : Dimension) → IsGrid g → IsMarked g d → HalosFit g d → d.extent ≤ 1048576 → HasSmall d
+small_one : (g : List ℕ) (d : Dimension) → IsGrid g → IsMarked g d → HalosFit g d → d.extent ≤ max_cells → HasSmall d
 small_one g d ok m fit le =
     let some = some_parts g d ok m.axes in
     (le, halo_small g d d.low m.divided some (λ i l. (fit i l).0), halo_small g d d.high m.divided some (λ i l. (fit i l).1))
 
-small_all : (g : List ℕ) (ds : List Dimension) → IsGrid g → AllByRecursion (IsMarked g) ds → AllByRecursion (HalosFit g) ds → AllByRecursion (λ d. d.extent ≤ 1048576) ds → AllByRecursion HasSmall ds
+small_all : (g : List ℕ) (ds : List Dimension) → IsGrid g → AllByRecursion (IsMarked g) ds → AllByRecursion (HalosFit g) ds → AllByRecursion (λ d. d.extent ≤ max_cells) ds → AllByRecursion HasSmall ds
 small_all g [] ok m fit le = tt
 small_all g (d ∷ ds) ok m fit le = (small_one g d ok m.0 fit.0 le.0, small_all g ds ok m.1 fit.1 le.1)
 
 -- ---- the sharding that is written
-
--- what holds of it where all rules are kept but for the size of the largest local tensor
-pub record IsNearly (g : GridValue) (raw : RawSharding) (s : List ℕ) : Type 0 where
-  pub grid : IsGrid g.extents
-  pub small : counted_cells s ≤ 1048576
-  pub lists : KeepsLists g raw s
-  pub divisions : KeepsDivisions g raw s
-  pub halos : KeepsHalos g raw s
 
 written_whole : (g : GridValue) (raw : RawSharding) (s : List ℕ) → whole_of (sharding_of g raw s) ≡ s
 written_whole g raw s =
@@ -57,78 +48,73 @@ written_whole g raw s =
     ∙ extents-marked g.extents (listed raw.split s) raw.offsets
     ∙ extents-listed raw.split s
 
-written_axes : (g : GridValue) (raw : RawSharding) (s : List ℕ) → IsNearly g raw s → AreAxesOf (length g.extents) (axes_of (sharding_of g raw s).dimensions)
+written_axes : (g : GridValue) (raw : RawSharding) (s : List ℕ) → KeepsAllButSize g raw s → AreAxesOf (length g.extents) (axes_of (sharding_of g raw s).dimensions)
 written_axes g raw s h =
     let same = axes-with_halos (marked g.extents (listed raw.split s) raw.offsets) raw.halos ∙ axes-marked g.extents (listed raw.split s) raw.offsets in
     subst (AreAxesOf (length g.extents)) (sym same) (has_axes g raw s h.grid.few h.lists).all
 
-written_marked : (g : GridValue) (raw : RawSharding) (s : List ℕ) → IsNearly g raw s → AllByRecursion (IsMarked g.extents) (sharding_of g raw s).dimensions
+written_marked : (g : GridValue) (raw : RawSharding) (s : List ℕ) → KeepsAllButSize g raw s → AllByRecursion (IsMarked g.extents) (sharding_of g raw s).dimensions
 written_marked g raw s h = haloed_marked g.extents (marked g.extents (listed raw.split s) raw.offsets) raw.halos (all_marked g raw s h.grid h.lists h.divisions)
 
-written_small : (g : GridValue) (raw : RawSharding) (s : List ℕ) → IsNearly g raw s → AllByRecursion HasSmall (sharding_of g raw s).dimensions
+written_small : (g : GridValue) (raw : RawSharding) (s : List ℕ) → KeepsAllButSize g raw s → AllByRecursion HasSmall (sharding_of g raw s).dimensions
 written_small g raw s h =
-    let whole : counted_cells (whole_of (sharding_of g raw s)) ≤ 1048576 = rw (written_whole g raw s) h.small in
-    small_all g.extents (sharding_of g raw s).dimensions h.grid (written_marked g raw s h) h.halos.fit (extents_few (sharding_of g raw s).dimensions 1048576 whole)
+    let whole : counted_cells (whole_of (sharding_of g raw s)) ≤ max_cells = rw (written_whole g raw s) h.small in
+    small_all g.extents (sharding_of g raw s).dimensions h.grid (written_marked g raw s h) h.halos.fit (extents_few (sharding_of g raw s).dimensions max_cells whole)
 
--- what the code asks of the dimensions
-pub marked_read : (g : GridValue) (raw : RawSharding) (s : List ℕ) (ds : List Dimension) → IsNearly g raw s → ds ≡ (sharding_of g raw s).dimensions → All (IsMarked g.extents) ds
-marked_read g raw s ds h e = subst (All (IsMarked g.extents)) (sym e) (All-from_recursion (IsMarked g.extents) (sharding_of g raw s).dimensions (written_marked g raw s h))
+-- ---- views of the dimensions
 
-pub small_read : (g : GridValue) (raw : RawSharding) (s : List ℕ) (ds : List Dimension) → IsNearly g raw s → ds ≡ (sharding_of g raw s).dimensions → All HasSmall ds
-small_read g raw s ds h e = subst (All HasSmall) (sym e) (All-from_recursion HasSmall (sharding_of g raw s).dimensions (written_small g raw s h))
+-- what the last step of admission reads
+pub record IsReady (g : GridValue) (raw : RawSharding) (s : List ℕ) (views : List DimensionView) : Type 0 where
+  pub ordered : All (IsOrdered g.extents) views
+  pub short : All IsShort views
+  pub largest : map (largest_described g.extents) views ≡ map (largest_local g.extents) (sharding_of g raw s).dimensions
 
--- ---- the largest local tensor
+pub is_ready : (g : GridValue) (raw : RawSharding) (s : List ℕ) (views : List DimensionView) (ds : List Dimension) → KeepsAllButSize g raw s → ds ≡ (sharding_of g raw s).dimensions → AreViewsOf views ds → IsReady g raw s views
+is_ready g raw s views ds h e shown =
+    let mine = subst (AreViewsOf views) e shown in
+    let own = own_views g.extents views (sharding_of g raw s).dimensions h.grid (written_marked g raw s h) mine in
+    record {
+      ordered = own.ordered;
+      short = All-from_recursion IsShort views (short_views views (sharding_of g raw s).dimensions (written_small g raw s h) mine);
+      largest = map-described g.extents views ∙ ap (map (largest_local g.extents)) own.value;
+    }
 
-fits_all : (g : GridValue) (raw : RawSharding) (s : List ℕ) → IsNearly g raw s → counted_cells (map (largest_local g.extents) (sharding_of g raw s).dimensions) ≤ 1048576
-    → (device : ℕ) → device < cell_count g.extents → counted_cells (local_shape (sharding_of g raw s) device) ≤ 1048576
-fits_all g raw s h le device l =
-    let ds = (sharding_of g raw s).dimensions in
-    let each = axes_of-each (length g.extents) ds (written_axes g raw s h) in
-    let most : counted_cells (map (local_extent g.extents device) ds) ≤ counted_cells (map (largest_local g.extents) ds) = local_cells-le g.extents device ds l each in
-    omega arith
-
-largest_fits : (g : GridValue) (raw : RawSharding) (s : List ℕ) → IsNearly g raw s → ((device : ℕ) → device < cell_count g.extents → counted_cells (local_shape (sharding_of g raw s) device) ≤ 1048576)
-    → counted_cells (map (largest_local g.extents) (sharding_of g raw s).dimensions) ≤ 1048576
-largest_fits g raw s h fits =
-    let ds = (sharding_of g raw s).dimensions in
-    let axes = written_axes g raw s h in
-    let largest = largest_device g.extents ds h.grid (axes_of-each (length g.extents) ds axes) axes in
-    subst (λ z. counted_cells z ≤ 1048576) largest.extents (fits largest.device largest.below)
+pub written_rank : (g : GridValue) (raw : RawSharding) (s : List ℕ) (ds : List Dimension) → ds ≡ (sharding_of g raw s).dimensions → length ds ≡ length s
+written_rank g raw s ds e = ap length e ∙ sym (length-map (sharding_of g raw s).dimensions (λ d. d.extent)) ∙ ap length (written_whole g raw s)
 
 -- ---- the answers
 
-keeps_all : (g : GridValue) (raw : RawSharding) (s : List ℕ) → IsNearly g raw s → ((device : ℕ) → device < cell_count g.extents → counted_cells (local_shape (sharding_of g raw s) device) ≤ 1048576)
+keeps_all : (g : GridValue) (raw : RawSharding) (s : List ℕ) → KeepsAllButSize g raw s → ((device : ℕ) → device < cell_count g.extents → counted_cells (local_shape (sharding_of g raw s) device) ≤ max_cells)
     → (rule : Rule) → Keeps rule g raw s
 keeps_all g raw s h fits A1 = h.lists.axes
 keeps_all g raw s h fits A2 = h.lists.once
 keeps_all g raw s h fits A3 = h.lists.few
-keeps_all g raw s h fits A4 = h.divisions.even
-keeps_all g raw s h fits A5 = h.divisions.offsets
+keeps_all g raw s h fits A5 = h.divisions
 keeps_all g raw s h fits A6 = h.halos.alone
 keeps_all g raw s h fits A7 = h.halos.counted
 keeps_all g raw s h fits A8 = (h.halos.fit, fits)
 keeps_all g raw s h fits _ = tt
 
-pub is_admitted : (g : GridValue) (raw : RawSharding) (s : List ℕ) (ds : List Dimension) → IsNearly g raw s → ds ≡ (sharding_of g raw s).dimensions → counted_cells (map (largest_local g.extents) ds) ≤ 1048576
+pub is_admitted : (g : GridValue) (raw : RawSharding) (s : List ℕ) (views : List DimensionView) → KeepsAllButSize g raw s → IsReady g raw s views → counted_cells (map (largest_described g.extents) views) ≤ max_cells
     → IsAdmitted g raw s
-is_admitted g raw s ds h e le =
-    let le' : counted_cells (map (largest_local g.extents) (sharding_of g raw s).dimensions) ≤ 1048576 = rw (← e) le in
-    record { keeps = keeps_all g raw s h (fits_all g raw s h le') }
+is_admitted g raw s views h ready le =
+    let le' : counted_cells (map (largest_local g.extents) (sharding_of g raw s).dimensions) ≤ max_cells = subst (λ ns. counted_cells ns ≤ max_cells) ready.largest le in
+    record { keeps = keeps_all g raw s h (cells_fit (sharding_of g raw s) max_cells (written_axes g raw s h) le') }
 
-pub is_too_large : (g : GridValue) (raw : RawSharding) (s : List ℕ) (ds : List Dimension) (r : Bool) → IsNearly g raw s → ds ≡ (sharding_of g raw s).dimensions → r ≡ false
-    → (counted_cells (map (largest_local g.extents) ds) ≤ 1048576 → r ≡ true) → IsLeastBroken A8 g raw s
-is_too_large g raw s ds r h e failed passes = record {
-  broken = λ kept. not_both r (passes (rw e (largest_fits g raw s h kept.1))) failed;
-  earlier = (h.lists.axes, (h.lists.once, (h.lists.few, (h.divisions.even, (h.divisions.offsets, (h.halos.alone, (h.halos.counted, tt)))))));
+pub is_too_large : (g : GridValue) (raw : RawSharding) (s : List ℕ) (views : List DimensionView) (r : Bool) → KeepsAllButSize g raw s → IsReady g raw s views → r ≡ false
+    → (counted_cells (map (largest_described g.extents) views) ≤ max_cells → r ≡ true) → IsLeastBroken A8 g raw s
+is_too_large g raw s views r h ready failed passes = record {
+  broken = λ kept. not_both r (passes (subst (λ ns. counted_cells ns ≤ max_cells) (sym ready.largest) (largest_fit (sharding_of g raw s) max_cells h.grid (written_axes g raw s h) kept.1))) failed;
+  earlier = (h.lists.axes, (h.lists.once, (h.lists.few, (h.divisions, (h.halos.alone, (h.halos.counted, tt))))));
 }
 
 -- the sharding of what is written
-pub is_sharding : (g : GridValue) (raw : RawSharding) (s : List ℕ) → IsGrid g.extents → length s ≤ 6 → counted_cells s ≤ 1048576 → IsAdmitted g raw s → IsSharding (sharding_of g raw s)
+pub is_sharding : (g : GridValue) (raw : RawSharding) (s : List ℕ) → IsGrid g.extents → length s ≤ 6 → counted_cells s ≤ max_cells → IsAdmitted g raw s → IsSharding (sharding_of g raw s)
 is_sharding g raw s ok short small h =
     let lists : KeepsLists g raw s = record { axes = h.keeps A1; once = h.keeps A2; few = h.keeps A3 } in
-    let divisions : KeepsDivisions g raw s = record { even = h.keeps A4; offsets = h.keeps A5 } in
+    let divisions : Keeps A5 g raw s = h.keeps A5 in
     let halos : KeepsHalos g raw s = record { alone = h.keeps A6; counted = h.keeps A7; fit = (h.keeps A8).0 } in
-    let nearly : IsNearly g raw s = record { grid = ok; small = small; lists = lists; divisions = divisions; halos = halos } in
+    let nearly : KeepsAllButSize g raw s = record { grid = ok; small = small; lists = lists; divisions = divisions; halos = halos } in
     let ds = marked g.extents (listed raw.split s) raw.offsets in
     let whole = written_whole g raw s in
     record {
@@ -146,13 +132,13 @@ is_sharding g raw s ok short small h =
         let same : length (map (λ d. d.extent) (sharding_of g raw s).dimensions) ≡ length s = ap length (written_whole g raw s) in
         omega (arith, length-map (sharding_of g raw s).dimensions (λ d. d.extent))
 
-    one_mark : (g : GridValue) (raw : RawSharding) (s : List ℕ) → (raw.halos ≢ [] → raw.offsets ≡ []) → ¬ IsEven (sharding_of g raw s).dimensions → HasNoHalos (sharding_of g raw s).dimensions
+    one_mark : (g : GridValue) (raw : RawSharding) (s : List ℕ) → (raw.halos ≢ [] → raw.offsets ≡ []) → ¬ AreBalanced (sharding_of g raw s).dimensions → HasNoHalos (sharding_of g raw s).dimensions
     one_mark g raw s alone some = elim (none_or_some raw.halos) [
       | inl none ↦ subst (λ hs. HasNoHalos (with_halos (marked g.extents (listed raw.split s) raw.offsets) hs)) (sym none) (halos_none (marked g.extents (listed raw.split s) raw.offsets))
-      | inr given ↦ absurd (some (subst (λ os. IsEven (with_halos (marked g.extents (listed raw.split s) os) raw.halos)) (sym (alone given)) (offsets_none g.extents (listed raw.split s) raw.halos)))
+      | inr given ↦ absurd (some (subst (λ os. AreBalanced (with_halos (marked g.extents (listed raw.split s) os) raw.halos)) (sym (alone given)) (offsets_none g.extents (listed raw.split s) raw.halos)))
     ]
 
-pub is_held : (g : GridValue) (raw : RawSharding) (s : List ℕ) (grid : GridValue) (whole : List ℕ) (ds : List Dimension) → IsGrid g.extents → length s ≤ 6 → counted_cells s ≤ 1048576 → IsAdmitted g raw s
+pub is_held : (g : GridValue) (raw : RawSharding) (s : List ℕ) (grid : GridValue) (whole : List ℕ) (ds : List Dimension) → IsGrid g.extents → length s ≤ 6 → counted_cells s ≤ max_cells → IsAdmitted g raw s
     → grid ≡ g → whole ≡ s → ds ≡ (sharding_of g raw s).dimensions → IsHeld whole (record { grid = grid; dimensions = ds })
 is_held g raw s grid whole ds ok short small h eg ew ed =
     let same : sharding_of g raw s ≡ record { grid = grid; dimensions = ds } = λ j. record { grid = sym eg j; dimensions = sym ed j } in

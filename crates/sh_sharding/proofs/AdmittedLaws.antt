@@ -1,26 +1,23 @@
 -- What is written and keeps the rules is a sharding in normal form.
-use Rattle.std.proofs.Common.{◌≡◌, ◌≢◌, ℕ, zero, suc, ◌+◌, ◌*◌, ◌/◌, ◌%◌, ◌<◌, ◌≤◌, ◌⊎◌, inl, inr, List, [], ◌∷◌, ◌++◌, length, get_or, map, take, drop, false, refl, ap, ap₂, sym, ◌∙◌, arith, subst, ℤ, pos, negsuc}
+use Rattle.std.proofs.Common.{◌≡◌, ℕ, zero, suc, ◌<◌, ◌≤◌, inl, inr, List, [], ◌∷◌, ◌++◌, length, get_or, map, take, drop, false, refl, ap, ap₂, sym, ◌∙◌, arith, subst, ℤ, pos, negsuc}
 use Rattle.std.specs.Prelude.{◌≤ℤ◌, ◌<ℤ◌}
 use Rattle.std.specs.List.{All, AllByRecursion}
 use Rattle.std.proofs.lemmas.Int.{ints}
 use Rattle.std.proofs.lemmas.List.Elements.{All-append, All-map, All-weaker, All-head, All-tail, All-cons}
-use Rattle.std.proofs.Math.Nat.{mul-le-mul_right}
-use Rattle.sh_base.specs.Shape.{cell_count}
 use Rattle.sh_base.proofs.IndexLaws.{cell_count-some}
-use Rattle.sh_grid.specs.Grid.{IsGrid, AreAxesOf, group_size_of, on_axes}
-use Rattle.sh_sharding.specs.declared.shardings.Mark.{Mark}
-use Rattle.sh_sharding.specs.declared.shardings.Mark.TheVariants.{Even, Offsets}
+use Rattle.sh_grid.specs.Grid.{IsGrid, AreAxesOf}
+use Rattle.sh_sharding.specs.declared.shardings.Mark.TheVariants.{Balanced}
 use Rattle.sh_sharding.specs.declared.shardings.Dimension.{Dimension}
-use Rattle.sh_sharding.specs.Sharding.{offset_of, offsets_of, parts_of, unsplit, axes_of, HasNoHalos, IsEven, IsDivided, IsNormalMark, IsMarked, IsDimension}
-use Rattle.sh_sharding.specs.Admission.{natural, IsBelow, listed_axes, listed, is_split, is_split_by, offset_count, halo_count, haloed, with_mark, mark_of, marked, with_halos, AreOffsets, AreAllOffsets, HalosFit, KeepsLists}
+use Rattle.sh_sharding.specs.Sharding.{parts_of, unsplit, axes_of, HasNoHalos, AreBalanced, IsMarked, IsDimension, is_split, is_split_by}
+use Rattle.sh_sharding.specs.Admission.{natural, IsBelow, listed_axes, listed, offset_count, halo_count, haloed, with_mark, mark_of, marked, with_halos, AreAllOffsets, HalosFit, KeepsLists}
 use Rattle.sh_grid.specs.Grid.{GridValue}
 use Rattle.sh_ir.specs.declared.types.RawSharding.{RawSharding}
 use Rattle.std.proofs.lemmas.List.{length-append}
 use Rattle.sh_sharding.proofs.PartLaws.{part_of-below, axes_of-each}
-use Rattle.sh_sharding.proofs.AdmissionLaws.{get_or-offsets_of, mark_of-even, mark_of-none, mark_of-written, offsets_between, distinct_axes, few_axes}
+use Rattle.sh_sharding.proofs.AxisListLaws.{distinct_axes, few_axes}
+use Rattle.sh_sharding.proofs.MarkLaws.{length-naturals, balanced_mark, IsMarkOf, mark_of-none, written_mark}
 use Rattle.sh_sharding.proofs.DivisionLaws.{count_unsplit, halo_count-unsplit}
 use Rattle.std.proofs.lemmas.Bool.{cases_Bool}
-use Rattle.sh_sharding.proofs.Cases.{same_or_not}
 
 -- ---- axes and extents stay
 
@@ -63,83 +60,6 @@ listed_below n (x ∷ lists) h =
     (All-map (λ a. a < n) natural x (All-weaker (IsBelow n) (λ z. natural z < n) (λ z b. natural_below n z b) x (All-head (All (IsBelow n)) x lists h)))
     (listed_below n lists (All-tail (All (IsBelow n)) x lists h))
 
--- ---- marks
-
-even_divided : (n p : ℕ) → 0 < p → n % p ≡ 0 → IsDivided n p Even
-unfolding offset_of
-even_divided n p some e = record {
-  begins = omega arith;
-  rises = λ i l. mul-le-mul_right (n / p) (omega arith);
-  ends = let whole : p * (n / p) + n % p ≡ n = omega arith in omega arith;
-}
-
-natural_rises : (a b : ℤ) → pos 0 ≤ℤ a → a ≤ℤ b → natural a ≤ natural b
-natural_rises (pos x) (pos y) h l = omega (arith, ints)
-natural_rises (pos x) (negsuc y) h l = absurd (omega (arith, ints))
-natural_rises (negsuc x) b h l = absurd (omega (arith, ints))
-
-get_or-naturals : (os : List ℤ) (k : ℕ) → get_or (map natural os) k 0 ≡ natural (get_or os k (pos 0))
-get_or-naturals [] k = refl
-get_or-naturals (o ∷ os) zero = refl
-get_or-naturals (o ∷ os) (suc k) = get_or-naturals os k
-
-length-naturals : (os : List ℤ) → length (map natural os) ≡ length os
-length-naturals [] = refl
-length-naturals (o ∷ os) = ap suc (length-naturals os)
-
-written_divided : (n p : ℕ) (os : List ℤ) → AreOffsets n p os → IsDivided n p (Offsets (map natural os))
-unfolding offset_of
-written_divided n p os h = record {
-  begins = get_or-naturals os 0 ∙ ap natural h.begins;
-  rises = λ i l.
-      let at = offsets_between n p os i h (omega arith) in
-      let rise = natural_rises (get_or os i (pos 0)) (get_or os (i + 1) (pos 0)) at.low (h.rises i l) in
-      rw (get_or-naturals os i, get_or-naturals os (i + 1)) rise;
-  ends = get_or-naturals os p ∙ ap natural h.ends;
-}
-
-written_at : (n p : ℕ) (os : List ℕ) (k : ℕ) → offset_of n p (Offsets os) k ≡ get_or os k 0
-unfolding offset_of
-written_at n p os k = refl
-
--- offsets that are those of even parts divide as even parts do
-same_divided : (n p : ℕ) (os : List ℕ) → os ≡ offsets_of n p Even → IsDivided n p (Offsets os) → IsDivided n p Even
-same_divided n p os e h =
-    let at : (k : ℕ) → k < p + 1 → offset_of n p (Offsets os) k ≡ offset_of n p Even k = λ k l. written_at n p os k ∙ ap (λ z. get_or z k 0) e ∙ get_or-offsets_of n p Even k l in
-    record {
-      begins = sym (at 0 (omega arith)) ∙ h.begins;
-      rises = λ i l. let rise = h.rises i l in rw (← at i (omega arith), ← at (i + 1) (omega arith)) rise;
-      ends = sym (at p (omega arith)) ∙ h.ends;
-    }
-
--- what holds of a dimension's mark
-pub record IsMarkOf (n p : ℕ) (m : Mark) : Type 0 where
-  pub divided : IsDivided n p m
-  pub normal : IsNormalMark n p m
-
-list_cases : (xs ys : List ℕ) → (xs ≡ ys) ⊎ (xs ≢ ys)
-list_cases [] [] = inl refl
-list_cases [] (y ∷ ys) = inr (λ e. cc)
-list_cases (x ∷ xs) [] = inr (λ e. cc)
-list_cases (x ∷ xs) (y ∷ ys) = elim (same_or_not x y) [
-  | inl same ↦ elim (list_cases xs ys) [
-    | inl rest ↦ inl (ap₂ ◌∷◌ same rest)
-    | inr other ↦ inr (λ e. other (cc))
-  ]
-  | inr other ↦ inr (λ e. other (cc))
-]
-
-pub written_mark : (n p : ℕ) (os : List ℤ) → AreOffsets n p os → IsMarkOf n p (mark_of n p (map natural os))
-written_mark n p os h =
-    let divided = written_divided n p os h in
-    let counted : length (map natural os) ≡ p + 1 = length-naturals os ∙ h.counted in
-    elim (list_cases (map natural os) (offsets_of n p Even)) [
-      | inl even ↦ subst (IsMarkOf n p) (sym (mark_of-even n p (map natural os) even)) (record { divided = same_divided n p (map natural os) even divided; normal = tt })
-      | inr other ↦
-          let some : map natural os ≢ [] = λ e. let none : length (map natural os) ≡ 0 = ap length e in absurd (omega arith) in
-          subst (IsMarkOf n p) (sym (mark_of-written n p (map natural os) some other)) (record { divided = divided; normal = (counted, other) })
-    ]
-
 -- ---- marks of all dimensions
 
 abbrev pub none_of : (X : Type 0) → List X
@@ -157,20 +77,17 @@ marked_one : (g : List ℕ) (d : Dimension) (os : List ℤ) → AreAxesOf (lengt
 unfolding parts_of
 marked_one g d os m h = record { axes = m; divided = h.divided; normal = h.normal }
 
-even_mark : (n p : ℕ) → 0 < p → n % p ≡ 0 → IsMarkOf n p (mark_of n p [])
-even_mark n p some e = subst (IsMarkOf n p) (sym (mark_of-none n p)) (record { divided = even_divided n p some e; normal = tt })
-
 some_parts : (g : List ℕ) (d : Dimension) → IsGrid g → AreAxesOf (length g) d.axes → 0 < parts_of g d
 some_parts g d ok m = let below = part_of-below g d 0 (cell_count-some g ok.positive) m in omega arith
 
 -- no offsets are written
-pub marked_even : (g : List ℕ) (ds : List Dimension) → IsGrid g → AllByRecursion (λ d. AreAxesOf (length g) d.axes) ds → AllByRecursion (λ d. d.extent % parts_of g d ≡ 0) ds → AllByRecursion (IsMarked g) (marked g ds [])
-marked_even g [] ok m e = tt
-marked_even g (d ∷ ds) ok m e =
+pub marked_balanced : (g : List ℕ) (ds : List Dimension) → IsGrid g → AllByRecursion (λ d. AreAxesOf (length g) d.axes) ds → AllByRecursion (IsMarked g) (marked g ds [])
+marked_balanced g [] ok m = tt
+marked_balanced g (d ∷ ds) ok m =
     let none = take-nil {X = ℤ} (offset_count g d) in
     let rest = drop-nil {X = ℤ} (offset_count g d) in (
-      subst (λ os. IsMarked g (with_mark g d os)) (sym none) (marked_one g d [] m.0 (even_mark d.extent (parts_of g d) (some_parts g d ok m.0) e.0)),
-      subst (λ os. AllByRecursion (IsMarked g) (marked g ds os)) (sym rest) (marked_even g ds ok m.1 e.1),
+      subst (λ os. IsMarked g (with_mark g d os)) (sym none) (marked_one g d [] m.0 (balanced_mark d.extent (parts_of g d) (some_parts g d ok m.0))),
+      subst (λ os. AllByRecursion (IsMarked g) (marked g ds os)) (sym rest) (marked_balanced g ds ok m.1),
     )
 
 pub no_axes : (d : Dimension) → is_split d ≡ false → d.axes ≡ []
@@ -180,35 +97,30 @@ no_axes d h = axes_none d.axes h
     axes_none [] h = refl
     axes_none (a ∷ axes) h = absurd (cc)
 
-parts_of-unsplit : (g : List ℕ) (d : Dimension) → d.axes ≡ [] → parts_of g d ≡ 1
-unfolding parts_of group_size_of on_axes
-parts_of-unsplit g d e = ap (λ axes. cell_count (map (λ a. get_or g a 0) axes)) e
-
 -- all offsets are written
-pub marked_written : (g : List ℕ) (ds : List Dimension) (os : List ℤ) → AllByRecursion (λ d. AreAxesOf (length g) d.axes) ds → AreAllOffsets g ds os → AllByRecursion (IsMarked g) (marked g ds os)
-marked_written g [] os m h = tt
-marked_written g (d ∷ ds) os m h = (
-  elim (cases_Bool (is_split d)) [
-    | inl split ↦ marked_one g d (take (offset_count g d) os) m.0 (written_mark d.extent (parts_of g d) (take (offset_count g d) os) (h.0 split))
-    | inr whole ↦
-        let one = parts_of-unsplit g d (no_axes d whole) in
-        let none : take (offset_count g d) os ≡ [] = ap (λ n. take n os) (sym (count_unsplit g d whole)) in
-        let e : d.extent % parts_of g d ≡ 0 = rw one (omega arith) in
-        subst (λ x. IsMarked g (with_mark g d x)) (sym none) (marked_one g d [] m.0 (even_mark d.extent (parts_of g d) (omega arith) e))
-  ],
-  marked_written g ds (drop (offset_count g d) os) m.1 h.1,
-)
+pub marked_written : (g : List ℕ) (ds : List Dimension) (os : List ℤ) → IsGrid g → AllByRecursion (λ d. AreAxesOf (length g) d.axes) ds → AreAllOffsets g ds os → AllByRecursion (IsMarked g) (marked g ds os)
+marked_written g [] os ok m h = tt
+marked_written g (d ∷ ds) os ok m h =
+    let some = some_parts g d ok m.0 in (
+      elim (cases_Bool (is_split d)) [
+        | inl split ↦ marked_one g d (take (offset_count g d) os) m.0 (written_mark d.extent (parts_of g d) (take (offset_count g d) os) some (h.0 split))
+        | inr whole ↦
+            let none : take (offset_count g d) os ≡ [] = ap (λ n. take n os) (sym (count_unsplit g d whole)) in
+            subst (λ x. IsMarked g (with_mark g d x)) (sym none) (marked_one g d [] m.0 (balanced_mark d.extent (parts_of g d) some))
+      ],
+      marked_written g ds (drop (offset_count g d) os) ok m.1 h.1,
+    )
 
 -- ---- dimensions that aren't split
 
--- a dimension without axes has an even mark
-abbrev pub IsWholeEven : Dimension → Type 0
-IsWholeEven d = d.axes ≡ [] → d.mark ≡ Even
+-- a dimension without axes is balanced
+abbrev pub IsWholeBalanced : Dimension → Type 0
+IsWholeBalanced d = d.axes ≡ [] → d.mark ≡ Balanced
 
 split_by_axes : (d : Dimension) → d.axes ≡ [] → is_split d ≡ false
 split_by_axes d e = ap is_split_by e
 
-pub marked_whole : (g : List ℕ) (ds : List Dimension) (os : List ℤ) → AllByRecursion IsWholeEven (marked g ds os)
+pub marked_whole : (g : List ℕ) (ds : List Dimension) (os : List ℤ) → AllByRecursion IsWholeBalanced (marked g ds os)
 marked_whole g [] os = tt
 marked_whole g (d ∷ ds) os = (
   λ e.
@@ -219,7 +131,7 @@ marked_whole g (d ∷ ds) os = (
 
 -- ---- the dimensions of an admitted sharding
 
-haloed_one : (g : List ℕ) (d : Dimension) (hs : List ℤ) → IsMarked g d → IsWholeEven d → HalosFit g (haloed d hs) → (d.axes ≡ [] → hs ≡ []) → IsDimension g (haloed d hs)
+haloed_one : (g : List ℕ) (d : Dimension) (hs : List ℤ) → IsMarked g d → IsWholeBalanced d → HalosFit g (haloed d hs) → (d.axes ≡ [] → hs ≡ []) → IsDimension g (haloed d hs)
 unfolding parts_of
 haloed_one g d hs m even fit none = record {
   divided = m.divided;
@@ -232,7 +144,7 @@ haloed_one g d hs m even fit none = record {
       λ j. record { extent = d.extent; axes = e j; mark = even e j; low = low j; high = high j };
 }
 
-pub haloed_all : (g : List ℕ) (ds : List Dimension) (hs : List ℤ) → AllByRecursion (IsMarked g) ds → AllByRecursion IsWholeEven ds → AllByRecursion (HalosFit g) (with_halos ds hs) → AllByRecursion (IsDimension g) (with_halos ds hs)
+pub haloed_all : (g : List ℕ) (ds : List Dimension) (hs : List ℤ) → AllByRecursion (IsMarked g) ds → AllByRecursion IsWholeBalanced ds → AllByRecursion (HalosFit g) (with_halos ds hs) → AllByRecursion (IsDimension g) (with_halos ds hs)
 haloed_all g [] hs m e fit = tt
 haloed_all g (d ∷ ds) hs m e fit = (
   haloed_one g d (take (halo_count d) hs) m.0 e.0 fit.0 (λ none. ap (λ n. take n hs) (sym (halo_count-unsplit d (split_by_axes d none)))),
@@ -250,14 +162,14 @@ halos_none (d ∷ ds) =
       subst (λ z. HasNoHalos (with_halos ds z)) (sym rest) (halos_none ds),
     )
 
-pub offsets_none : (g : List ℕ) (ds : List Dimension) (hs : List ℤ) → IsEven (with_halos (marked g ds []) hs)
+pub offsets_none : (g : List ℕ) (ds : List Dimension) (hs : List ℤ) → AreBalanced (with_halos (marked g ds []) hs)
 offsets_none g [] hs = tt
 offsets_none g (d ∷ ds) hs =
     let none = take-nil {X = ℤ} (offset_count g d) in
     let rest = drop-nil {X = ℤ} (offset_count g d) in
     let d' = with_mark g d (take (offset_count g d) []) in (
       ap (λ z. mark_of d.extent (parts_of g d) (map natural z)) none ∙ mark_of-none d.extent (parts_of g d),
-      subst (λ z. IsEven (with_halos (marked g ds z) (drop (halo_count d') hs))) (sym rest) (offsets_none g ds (drop (halo_count d') hs)),
+      subst (λ z. AreBalanced (with_halos (marked g ds z) (drop (halo_count d') hs))) (sym rest) (offsets_none g ds (drop (halo_count d') hs)),
     )
 
 -- ---- what the code asks of the written lists
@@ -302,7 +214,7 @@ marked_listed g lists (n ∷ s) =
     let d = record (unsplit n) { axes = map natural (get_or lists 0 []) } in
     let none = take-nil {X = ℤ} (offset_count g d) in
     let rest = drop-nil {X = ℤ} (offset_count g d) in
-    let mark : Even ≡ mark_of d.extent (parts_of g d) (map natural (take (offset_count g d) [])) =
+    let mark : Balanced ≡ mark_of d.extent (parts_of g d) (map natural (take (offset_count g d) [])) =
     sym (ap (λ z. mark_of d.extent (parts_of g d) (map natural z)) none ∙ mark_of-none d.extent (parts_of g d)) in
     let head : d ≡ with_mark g d (take (offset_count g d) []) = λ j. record d { mark = mark j } in
     ap₂ ◌∷◌ head (marked_listed g (drop 1 lists) s ∙ ap (marked g (listed (drop 1 lists) s)) (sym rest))

@@ -1,6 +1,6 @@
 -- Cases that many proofs go by.
-use Rattle.std.proofs.Common.{◌≡◌, ◌≢◌, ℕ, suc, ◌<◌, ◌≤◌, ◌⊎◌, inl, inr, List, [], ◌∷◌, Bool, true, false, refl, arith}
-use Rattle.std.specs.Prelude.{nat_le, nat_lt, ◌&&◌}
+use Rattle.std.proofs.Common.{◌≡◌, ◌≢◌, ℕ, suc, length, ◌<◌, ◌≤◌, ◌⊎◌, inl, inr, List, [], ◌∷◌, Bool, true, false, refl, arith}
+use Rattle.std.specs.Prelude.{nat_le, nat_lt, ◌==◌, ◌&&◌}
 use Rattle.std.proofs.lemmas.Bool.Decides.{nat_tests}
 
 pub lt_or_le : (a b : ℕ) → (a < b) ⊎ (b ≤ a)
@@ -35,3 +35,12 @@ lt_from a b h = grind (arith, nat_tests)
 
 pub le_from : (a b : ℕ) → nat_le a b ≡ true → a ≤ b
 le_from a b h = grind (arith, nat_tests)
+
+-- a list by a test of its length
+pub empty_list : {X : Type 0} (xs : List X) (b : Bool) → b ≡ true → b ≡ (length xs == 0) → xs ≡ []
+empty_list [] b h e = refl
+empty_list (x ∷ xs) b h e = absurd (grind (arith, nat_tests))
+
+pub some_list : {X : Type 0} (xs : List X) (b : Bool) → b ≡ false → b ≡ (length xs == 0) → xs ≢ []
+some_list [] b h e same = absurd (grind (arith, nat_tests))
+some_list (x ∷ xs) b h e same = cc

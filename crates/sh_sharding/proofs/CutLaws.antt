@@ -1,5 +1,5 @@
 -- What is known of a cut, cell by cell.
-use Rattle.std.proofs.Common.{◌≡◌, ℕ, ◌+◌, ◌-◌, ◌<◌, List, [], ◌∷◌, map, Bool, true, refl, ap, ap₂, sym, ◌∙◌, arith}
+use Rattle.std.proofs.Common.{◌≡◌, ℕ, ◌+◌, ◌-◌, ◌<◌, List, [], ◌∷◌, get_or, map, Bool, true, refl, ap, ap₂, sym, ◌∙◌, arith}
 use Rattle.std.specs.List.{AllByRecursion}
 use Rattle.std.specs.Prelude.{nat_le, nat_lt, ◌&&◌, if◌then◌else◌}
 use Rattle.std.proofs.lemmas.Bool.Decides.{nat_tests}
@@ -77,19 +77,29 @@ cut_of-build s w f device ok none l =
     cut_cell-no_halos s (build (whole_of s) w f) device j ok none l h
     ∙ at-build (whole_of s) w f (whole_index s.grid.extents device s.dimensions j) (whole_index-inside s.grid.extents device s.dimensions j h inside))
 
--- An element operation on two tensors commutes with a cut without halos: the cut of the result is the
--- operation on the cuts.
+-- the cells of the operands' cuts are those of the operands where they stand in the whole
+cut_cells : (s : ShardingValue) (xs : List TensorValue) (device : ℕ) (j : List ℕ) → IsSharding s → HasNoHalos s.dimensions → device < cell_count s.grid.extents → IsIndexOf (local_shape s device) j
+    → map (λ x. at x (whole_index s.grid.extents device s.dimensions j)) xs ≡ map (λ x. at (cut_of s x device) j) xs
+cut_cells s [] device j ok none l h = refl
+cut_cells s (x ∷ xs) device j ok none l h =
+    ap₂ ◌∷◌ (sym (at-cut_of s x device j h ∙ cut_cell-no_halos s x device j ok none l h)) (cut_cells s xs device j ok none l h)
+
+-- An element operation commutes with a cut without halos: the cut of the result is the operation on the
+-- cuts.
+pub cut_of-elements : (s : ShardingValue) (w : Width) (f : List Cell → Cell) (xs : List TensorValue) (device : ℕ) → IsSharding s → HasNoHalos s.dimensions → device < cell_count s.grid.extents
+    → cut_of s (build (whole_of s) w (λ i. f (map (λ x. at x i) xs))) device
+    ≡ build (local_shape s device) w (λ j. f (map (λ x. at (cut_of s x device) j) xs))
+cut_of-elements s w f xs device ok none l =
+    cut_of-build s w (λ i. f (map (λ x. at x i) xs)) device ok none l
+    ∙ build-ext (local_shape s device) w (λ j. f (map (λ x. at x (whole_index s.grid.extents device s.dimensions j)) xs))
+    (λ j. f (map (λ x. at (cut_of s x device) j) xs))
+    (λ j h. ap f (cut_cells s xs device j ok none l h))
+
+-- the same of two operands
 pub cut_of-zip : (s : ShardingValue) (w : Width) (f : Cell → Cell → Cell) (x y : TensorValue) (device : ℕ) → IsSharding s → HasNoHalos s.dimensions → device < cell_count s.grid.extents
     → cut_of s (build (whole_of s) w (λ i. f (at x i) (at y i))) device
     ≡ build (local_shape s device) w (λ j. f (at (cut_of s x device) j) (at (cut_of s y device) j))
-cut_of-zip s w f x y device ok none l =
-    cut_of-build s w (λ i. f (at x i) (at y i)) device ok none l
-    ∙ build-ext (local_shape s device) w (λ j. f (at x (whole_index s.grid.extents device s.dimensions j)) (at y (whole_index s.grid.extents device s.dimensions j)))
-    (λ j. f (at (cut_of s x device) j) (at (cut_of s y device) j))
-    (λ j h.
-    let mine = at-cut_of s x device j h ∙ cut_cell-no_halos s x device j ok none l h in
-    let other = at-cut_of s y device j h ∙ cut_cell-no_halos s y device j ok none l h in
-    ap₂ f (sym mine) (sym other))
+cut_of-zip s w f x y device ok none l = cut_of-elements s w (λ cells. f (get_or cells 0 Undef) (get_or cells 1 Undef)) (x ∷ y ∷ []) device ok none l
 
 pub cuts_elementwise : (s : ShardingValue) → IsSharding s → HasNoHalos s.dimensions → CutsElementwise s
-cuts_elementwise s ok none = record { commutes = λ w f x y device l. cut_of-zip s w f x y device ok none l }
+cuts_elementwise s ok none = record { commutes = λ w f xs device l. cut_of-elements s w f xs device ok none l }

@@ -1,16 +1,17 @@
 -- The steps by which written offsets and halos are given to the dimensions.
-use Rattle.std.proofs.Common.{◌≡◌, ◌≢◌, ℕ, zero, suc, ◌+◌, ◌-◌, ◌<◌, ◌≤◌, ◌⊎◌, inl, inr, List, [], ◌∷◌, ◌++◌, length, get_or, map, take, drop, min, max, Bool, true, false, refl, ap, ap₂, sym, ◌∙◌, arith, subst, ℤ, pos}
+use Rattle.std.proofs.Common.{◌≡◌, ◌≢◌, ℕ, ◌+◌, ◌<◌, ◌≤◌, inl, inr, List, [], ◌∷◌, ◌++◌, length, get_or, map, take, drop, min, max, Bool, true, false, refl, ap, ap₂, sym, ◌∙◌, arith, subst, ℤ, pos}
 use Rattle.std.specs.Prelude.{if◌then◌else◌}
 use Rattle.std.specs.List.{AllByRecursion, All}
-use Rattle.std.proofs.lemmas.Int.{ints}
 use Rattle.std.proofs.lemmas.List.{at_drop_more, at_drop_all, append_assoc, append-nil}
 use Rattle.std.proofs.lemmas.List.Elements.{All-drop}
 use Rattle.sh_base.proofs.IndexLaws.{cell_count-some}
 use Rattle.sh_grid.specs.Grid.{IsGrid, AreAxesOf, group_size_of}
 use Rattle.sh_sharding.specs.declared.shardings.Mark.{Mark}
 use Rattle.sh_sharding.specs.declared.shardings.Dimension.{Dimension}
-use Rattle.sh_sharding.specs.Sharding.{parts_of, part_of, offset_at, part_size, largest_to, IsDivided}
-use Rattle.sh_sharding.specs.Admission.{natural, IsNatural, is_split, offset_count, halo_count, haloed, with_mark, marked, with_halos, mark_of, AreOffsets, HasOffsets, AreAllOffsets, HalosFit}
+use Rattle.sh_sharding.specs.Sharding.{parts_of, part_of, offset_at, part_size, size_of_part, IsDivided, is_split}
+use Rattle.sh_sharding.specs.Admission.{natural, IsNatural, offset_count, halo_count, haloed, with_mark, marked, with_halos, mark_of, AreOffsets, HasOffsets, AreAllOffsets, HalosFit}
+use Rattle.sh_sharding.specs.declared.views.MarkView.{MarkView}
+use Rattle.sh_sharding.specs.Views.{mark_in, IsSeen}
 use Rattle.sh_sharding.proofs.PartLaws.{part-ends, part_of-below}
 use Rattle.std.proofs.lemmas.Bool.{cases_Bool}
 
@@ -61,19 +62,6 @@ marking_end g ds offsets i out rest h le =
       back = λ k. subst (λ xs. AreAllOffsets g xs rest) none (h.back k);
     }
 
--- ---- halos
-
-pub record IsFitting (g : List ℕ) (d : Dimension) (halo part start : ℕ) : Type 0 where
-  pub begins : start ≡ offset_at g d part
-  pub fits : (i : ℕ) → i < part → halo ≤ part_size g d i
-
--- ---- the largest part
-
-pub record IsLargest (g : List ℕ) (d : Dimension) (part start most : ℕ) : Type 0 where
-  pub begins : start ≡ offset_at g d part
-  pub value : most ≡ largest_to g d part
-  pub within : most ≤ d.extent
-
 pub count_split : (g : List ℕ) (d : Dimension) (n : ℕ) → is_split d ≡ true → n ≡ group_size_of g d.axes → n + 1 ≡ offset_count g d
 unfolding offset_count parts_of
 count_split g d n h e = ap (λ z. z + 1) e ∙ sym (ap (λ (b : Bool). if b then group_size_of g d.axes + 1 else 0) h)
@@ -110,58 +98,24 @@ none_taken g d rest mine count least h e el em =
 
 -- ---- halos
 
-pub size_read : (g : List ℕ) (d : Dimension) (i from to : ℕ) → from ≡ offset_at g d i → to ≡ offset_at g d (i + 1) → to - from ≡ part_size g d i
-unfolding part_size
-size_read g d i from to ef et = omega arith
-
-pub ordered_read : (g : List ℕ) (d : Dimension) (i from to : ℕ) → IsDivided d.extent (parts_of g d) d.mark → i < parts_of g d → from ≡ offset_at g d i → to ≡ offset_at g d (i + 1) → from ≤ to
-unfolding offset_at
-ordered_read g d i from to h l ef et = let rise = h.rises i l in omega arith
-
-lt_or_same : (i k : ℕ) → i < k + 1 → (i < k) ⊎ (i ≡ k)
-lt_or_same i k h = grind arith
-
-pub fitting_more : (g : List ℕ) (d : Dimension) (halo part start end : ℕ) → IsFitting g d halo part start → end ≡ offset_at g d (part + 1) → halo ≤ end - start → IsFitting g d halo (part + 1) end
-fitting_more g d halo part start end h e le = record {
-  begins = e;
-  fits = λ i l. elim (lt_or_same i part l) [
-    | inl less ↦ h.fits i less
-    | inr same ↦
-        let read : end - start ≡ part_size g d part = size_read g d part start end h.begins e in
-        let here : halo ≤ part_size g d part = omega arith in
-        subst (λ z. halo ≤ part_size g d z) (sym same) here
-  ];
-}
-
-pub largest_more : (g : List ℕ) (d : Dimension) (part start most end found : ℕ) → IsDivided d.extent (parts_of g d) d.mark → part < parts_of g d → IsLargest g d part start most → end ≡ offset_at g d (part + 1) → end ≤ d.extent
-    → found ≡ max most (end - start) → IsLargest g d (part + 1) end found
-largest_more g d part start most end found ok l h e within ef =
-    let read : end - start ≡ part_size g d part = size_read g d part start end h.begins e in
-    let value = h.value in
-    let small = h.within in
-    record {
-      begins = e;
-      value = ef ∙ ap₂ max value read ∙ largest_next g d part;
-      within = omega arith;
-    }
-  where
-    largest_next : (g : List ℕ) (d : Dimension) (k : ℕ) → max (largest_to g d k) (part_size g d k) ≡ largest_to g d (k + 1)
-    largest_next g d k = let same : suc k ≡ k + 1 = omega arith in ap (largest_to g d) same
-
 -- ---- halos, dimension by dimension
 
 pub part_size-haloed : (g : List ℕ) (d : Dimension) (hs : List ℤ) (i : ℕ) → part_size g (haloed d hs) i ≡ part_size g d i
-unfolding part_size offset_at parts_of
+unfolding part_size parts_of
 part_size-haloed g d hs i = refl
 
 pub parts_of-haloed : (g : List ℕ) (d : Dimension) (hs : List ℤ) → parts_of g (haloed d hs) ≡ parts_of g d
 unfolding parts_of
 parts_of-haloed g d hs = refl
 
-pub natural_at : (hs : List ℤ) (k : ℕ) → All IsNatural hs → IsNatural (get_or hs k (pos 0))
-natural_at [] k h = omega (arith, ints)
-natural_at (z ∷ hs) zero h = h 0 (pos 0) (omega arith)
-natural_at (z ∷ hs) (suc k) h = natural_at hs k (λ i d l. h (suc i) d (omega arith))
+-- the sizes that the code reads are those of the dimension
+pub sizes_seen : (g : List ℕ) (d : Dimension) (p least : ℕ) (view : MarkView) → IsSeen g d p view → ((i : ℕ) → i < p → least ≤ size_of_part d.extent p (mark_in d.extent p view) i)
+    → (i : ℕ) → i < parts_of g d → least ≤ part_size g d i
+sizes_seen g d p least view seen h i l = subst (λ n. least ≤ n) (seen.size i) (h i (subst (λ n. i < n) (sym seen.parts) l))
+
+pub sizes_read : (g : List ℕ) (d : Dimension) (p least : ℕ) (view : MarkView) → IsSeen g d p view → ((i : ℕ) → i < parts_of g d → least ≤ part_size g d i)
+    → (i : ℕ) → i < p → least ≤ size_of_part d.extent p (mark_in d.extent p view) i
+sizes_read g d p least view seen h i l = subst (λ n. least ≤ n) (sym (seen.size i)) (h i (subst (λ n. i < n) seen.parts l))
 
 pub halos_fit : (g : List ℕ) (d : Dimension) (hs : List ℤ) (low high : ℕ) → low ≡ natural (get_or hs 0 (pos 0)) → high ≡ natural (get_or hs 1 (pos 0))
     → ((i : ℕ) → i < parts_of g d → max low high ≤ part_size g d i) → HalosFit g (haloed d hs)

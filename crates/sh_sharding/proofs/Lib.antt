@@ -3,10 +3,14 @@ pub mod PartLaws
 pub mod CutLaws
 pub mod WindowLaws
 pub mod OwnerLaws
-pub mod AdmissionLaws
+pub mod AxisListLaws
+pub mod MarkLaws
+pub mod ViewLaws
 pub mod DivisionLaws
 pub mod AdmittedLaws
 pub mod LargestLaws
+pub mod OwnViewLaws
+pub mod ViewAdmissionLaws
 pub mod AdmissionSteps
 pub mod AdmitLaws
 pub mod LocalTypeLaws
@@ -15,3 +19,7 @@ pub mod NormalLaws
 pub mod SpellingLaws
 pub mod PositionLaws
 pub mod TogetherLaws
+pub mod EvenLaws
+pub mod OrderLaws
+pub mod MadeLaws
+pub mod EqualityLaws

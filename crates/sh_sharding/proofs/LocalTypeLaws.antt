@@ -10,8 +10,10 @@ use Rattle.sh_grid.specs.Grid.{IsGrid, AreAxesOf, group_size_of, member_of}
 use Rattle.sh_grid.proofs.GroupLaws.{member_of-below, place_in-member_of}
 use Rattle.sh_ir.specs.declared.types.Dim.TheVariants.{Known, Differs}
 use Rattle.sh_sharding.specs.declared.shardings.Dimension.{Dimension}
-use Rattle.sh_sharding.specs.Sharding.{parts_of, part_of, part_size, size_in, local_extent}
-use Rattle.sh_sharding.specs.LocalTypes.{part_sizes, local_dim, HasTwoExtents, IsLocalDim}
+use Rattle.sh_sharding.specs.Sharding.{parts_of, part_of, part_size, size_in, local_extent, IsDimension}
+use Rattle.sh_sharding.specs.declared.views.MarkView.{MarkView}
+use Rattle.sh_sharding.specs.Views.{mark_in, IsSeen}
+use Rattle.sh_sharding.specs.LocalTypes.{IsCommonSize, HasOtherSize, part_sizes, local_dim, HasTwoExtents, IsLocalDim}
 use Rattle.sh_sharding.proofs.PartLaws.{part_of-below}
 use Rattle.sh_sharding.proofs.Cases.{below_next, same_or_not}
 
@@ -101,3 +103,30 @@ is_local_dim g d ok m = elim (other_part g d (parts_of g d)) [
 pub are_local_dims : (g : List ℕ) (ds : List Dimension) → IsGrid g → AllByRecursion (λ d. AreAxesOf (length g) d.axes) ds → AllByRecursion (λ d. IsLocalDim g d (local_dim g d)) ds
 are_local_dims g [] ok m = tt
 are_local_dims g (d ∷ ds) ok m = (is_local_dim g d ok m.0, are_local_dims g ds ok m.1)
+
+-- ---- what the code reads of a dimension
+
+pub record IsKnown (g : List ℕ) (d : Dimension) (size : ℕ) : Type 0 where
+  pub value : Known (d.low + size + d.high) ≡ local_dim g d
+  pub within : size ≤ d.extent
+  pub low : d.low ≤ size
+  pub high : d.high ≤ size
+
+pub known_extent : (g : List ℕ) (d : Dimension) (p size : ℕ) (view : MarkView) → IsSeen g d p view → IsDimension g d → IsCommonSize d.extent p (mark_in d.extent p view) size → IsKnown g d size
+known_extent g d p size view seen ok h =
+    let some = seen.dividing.some in
+    let parts = seen.parts in
+    let first : size ≡ part_size g d 0 = h.first ∙ seen.size 0 in
+    let low = ok.low 0 (omega arith) in
+    let high = ok.high 0 (omega arith) in
+    let all : (i : ℕ) → i < parts_of g d → part_size g d i ≡ part_size g d 0 = λ i l. sym (seen.size i) ∙ h.all i (subst (λ n. i < n) (sym parts) l) ∙ first in
+    record {
+      value = ap (λ n. Known (d.low + n + d.high)) first ∙ sym (one_size g d all);
+      within = h.within;
+      low = omega arith;
+      high = omega arith;
+    }
+
+pub other_extent : (g : List ℕ) (d : Dimension) (p : ℕ) (view : MarkView) → IsSeen g d p view → HasOtherSize d.extent p (mark_in d.extent p view) → Differs ≡ local_dim g d
+other_extent g d p view seen h =
+    sym (two_sizes g d h.part (subst (λ n. h.part < n) seen.parts h.below) (λ e. h.other (seen.size h.part ∙ e ∙ sym (seen.size 0))))

@@ -9,8 +9,7 @@ use Rattle.std.proofs.lemmas.List.FromFn.{map-range_with_len_more}
 use Rattle.std.proofs.lemmas.Simd.{map-map}
 use Rattle.sh_grid.specs.Grid.{group_size_of, AreAxesOf}
 use Rattle.sh_sharding.specs.declared.shardings.Dimension.{Dimension}
-use Rattle.sh_sharding.specs.Sharding.{ShardingValue, parts_of, offset_at, offset_of, offsets_of, IsMarked, IsDimension, IsSharding}
-use Rattle.sh_sharding.specs.Admission.{is_split}
+use Rattle.sh_sharding.specs.Sharding.{ShardingValue, parts_of, offset_at, offset_of, offsets_of, IsMarked, IsDimension, IsSharding, is_split}
 use Rattle.sh_sharding.specs.Normal.{division_of, up_to_last_split}
 use Rattle.sh_sharding.specs.Spelling.{written_dimensions, part_offsets}
 use Rattle.sh_sharding.proofs.PartLaws.{axes_of-each}

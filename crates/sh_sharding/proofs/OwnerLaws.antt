@@ -275,7 +275,7 @@ sizes_so_far g d (suc k) h le =
 
 pub sizes_sum : (g : List ℕ) (d : Dimension) → IsDivided d.extent (parts_of g d) d.mark → SizesSum g d
 unfolding offset_at
-sizes_sum g d h = record { total = sizes_so_far g d (parts_of g d) h (omega arith) ∙ h.ends }
+sizes_sum g d h = record { before = λ part le. sizes_so_far g d part h le; total = sizes_so_far g d (parts_of g d) h (omega arith) ∙ h.ends }
 
 pub all_sizes_sum : (g : List ℕ) (ds : List Dimension) → AllByRecursion (IsDimension g) ds → AllByRecursion (SizesSum g) ds
 all_sizes_sum g [] h = tt

@@ -1,18 +1,18 @@
 -- The parts of a dimension, and the part of a device.
-use Rattle.std.proofs.Common.{◌≡◌, ℕ, zero, suc, ◌+◌, ◌-◌, ◌*◌, ◌/◌, ◌<◌, ◌≤◌, ◌⊎◌, List, [], ◌∷◌, ◌++◌, length, get_or, map, max, ap, sym, ◌∙◌, arith, subst, inl, inr}
+use Rattle.std.proofs.Common.{◌≡◌, ℕ, zero, suc, ◌+◌, ◌*◌, ◌<◌, ◌≤◌, ◌⊎◌, List, [], ◌∷◌, ◌++◌, length, get_or, map, max, ap, ap₂, sym, ◌∙◌, arith, subst, inl, inr}
 use Rattle.std.specs.List.{AllByRecursion}
 use Rattle.std.proofs.lemmas.List.{get_or_read}
 use Rattle.std.proofs.lemmas.Nat.{mul-le}
 use Rattle.std.proofs.Math.Nat.{mul-le-mul_left, mul-le-mul_right}
-use Rattle.sh_base.specs.Shape.{cell_count}
+use Rattle.sh_base.specs.Shape.{cell_count, max_cells}
 use Rattle.sh_grid.specs.Grid.{IsGrid, IsNoneOf, AreAxesOf, group_size_of, place_in}
-use Rattle.sh_base.proofs.IndexLaws.{cell_count-some}
 use Rattle.sh_grid.proofs.GroupLaws.{place_in-below}
-use Rattle.sh_grid.proofs.GroupSteps.{group_size_of-le}
 use Rattle.sh_sharding.specs.declared.shardings.Mark.{Mark}
-use Rattle.sh_sharding.specs.declared.shardings.Mark.TheVariants.{Even, Offsets}
+use Rattle.sh_sharding.specs.declared.views.MarkView.{MarkView}
+use Rattle.sh_sharding.specs.Views.{IsSeen, IsMarkView}
+use Rattle.sh_sharding.proofs.ViewLaws.{is_shown}
 use Rattle.sh_sharding.specs.declared.shardings.Dimension.{Dimension}
-use Rattle.sh_sharding.specs.Sharding.{ShardingValue, offset_of, parts_of, part_of, offset_at, part_size, start_in, size_in, axes_of, unsplit, counted_cells, IsDivided, IsNormalMark, IsDimension, IsSharding}
+use Rattle.sh_sharding.specs.Sharding.{ShardingValue, offset_of, parts_of, part_of, offset_at, part_size, start_in, size_in, size_of_part, axes_of, unsplit, counted_cells, IsDivided, IsNormalMark, IsDimension, IsSharding}
 
 -- ---- parts
 
@@ -38,7 +38,7 @@ offset_of-within n p m i h le = let most = offset_of-rises n p m i p h le (omega
 
 pub part-ends : (g : List ℕ) (d : Dimension) (i : ℕ) → IsDivided d.extent (parts_of g d) d.mark → i < parts_of g d
     → (offset_at g d i + part_size g d i ≡ offset_at g d (i + 1)) × (offset_at g d (i + 1) ≤ d.extent)
-unfolding offset_at part_size
+unfolding offset_at part_size size_of_part
 part-ends g d i h l =
     let rise = h.rises i l in
     (omega arith, offset_of-within d.extent (parts_of g d) d.mark (i + 1) h (omega arith))
@@ -97,7 +97,7 @@ pub record IsRead (s : ShardingValue) (dim : ℕ) (d : Dimension) : Type 0 where
   pub value : d ≡ get_or s.dimensions dim (unsplit 0)
   pub axes : AreAxesOf (length s.grid.extents) d.axes
   pub admitted : IsDimension s.grid.extents d
-  pub small : d.extent ≤ 1048576
+  pub small : d.extent ≤ max_cells
 
 -- an extent is at most the count of cells
 pub extents_few : (ds : List Dimension) (top : ℕ) → counted_cells (map (λ d. d.extent) ds) ≤ top → AllByRecursion (λ d. d.extent ≤ top) ds
@@ -129,66 +129,42 @@ read_dimension s dim d ok l e =
       value = get_or_read s.dimensions dim d l e (unsplit 0);
       axes = subst (λ x. AreAxesOf (length s.grid.extents) x.axes) (sym e) axes;
       admitted = subst (IsDimension s.grid.extents) (sym e) dimension;
-      small = subst (λ x. x.extent ≤ 1048576) (sym e) (each_at (λ x. x.extent ≤ 1048576) s.dimensions dim d (extents_few s.dimensions 1048576 ok.small) l);
+      small = subst (λ x. x.extent ≤ max_cells) (sym e) (each_at (λ x. x.extent ≤ max_cells) s.dimensions dim d (extents_few s.dimensions max_cells ok.small) l);
     }
 
--- the offset that the code computes
-pub record IsOffset (g : List ℕ) (d : Dimension) (part found : ℕ) : Type 0 where
-  pub value : found ≡ offset_at g d part
-  pub within : found ≤ d.extent
+-- ---- what the code computes
 
-pub even_offset : (g : List ℕ) (d : Dimension) (part size : ℕ) → d.mark ≡ Even → IsDivided d.extent (parts_of g d) d.mark → part ≤ parts_of g d → size ≡ group_size_of g d.axes
-    → IsOffset g d part (part * (d.extent / size))
-unfolding parts_of offset_of offset_at
-even_offset g d part size even ok l e =
-    let value : part * (d.extent / size) ≡ offset_of d.extent (group_size_of g d.axes) d.mark part =
-    ap (λ z. part * (d.extent / z)) e ∙ sym (ap (λ m. offset_of d.extent (group_size_of g d.axes) m part) even) in
-    let within = offset_of-within d.extent (group_size_of g d.axes) d.mark part ok l in
-    record { value = value; within = rw value within }
-
-pub written_offset : (g : List ℕ) (d : Dimension) (part : ℕ) (offsets : List ℕ) → d.mark ≡ Offsets offsets → IsDivided d.extent (parts_of g d) d.mark → part ≤ parts_of g d
-    → IsOffset g d part (get_or offsets part 0)
-unfolding parts_of offset_of offset_at
-written_offset g d part offsets written ok l =
-    let value : get_or offsets part 0 ≡ offset_of d.extent (group_size_of g d.axes) d.mark part =
-    sym (ap (λ m. offset_of d.extent (group_size_of g d.axes) m part) written) in
-    let within = offset_of-within d.extent (group_size_of g d.axes) d.mark part ok l in
-    record { value = value; within = rw value within }
-
-pub written_long : (g : List ℕ) (d : Dimension) (offsets : List ℕ) → d.mark ≡ Offsets offsets → IsNormalMark d.extent (parts_of g d) d.mark → length offsets ≡ parts_of g d + 1
-written_long g d offsets written normal = (subst (λ m. IsNormalMark d.extent (parts_of g d) m) written normal).0
+pub is_seen : (g : List ℕ) (d : Dimension) (p : ℕ) (view : MarkView) → IsDivided d.extent (parts_of g d) d.mark → IsNormalMark d.extent (parts_of g d) d.mark → p ≡ group_size_of g d.axes → 0 < p → p ≤ 1024 → IsMarkView view d.mark
+    → IsSeen g d p view
+unfolding parts_of offset_at part_size
+is_seen g d p view divided normal e some few shown =
+    let is = is_shown d.extent p view d.mark some few (subst (λ n. IsDivided d.extent n d.mark) (sym e) divided) (subst (λ n. IsNormalMark d.extent n d.mark) (sym e) normal) shown in
+    record {
+      dividing = is.dividing;
+      parts = e;
+      offset = λ i. ap₂ (λ n m. offset_of d.extent n m i) e is.mark;
+      size = λ i. ap₂ (λ n m. size_of_part d.extent n m i) e is.mark;
+    }
 
 -- the span that the code computes
-pub record IsSpan (g : List ℕ) (d : Dimension) (device part from to : ℕ) : Type 0 where
-  pub part_below : part < parts_of g d
-  pub ordered : from ≤ to
+pub record IsSpan (g : List ℕ) (d : Dimension) (device from long : ℕ) : Type 0 where
   pub start : from ≡ start_in g device d
-  pub size : to - from ≡ size_in g device d
-  pub within : from + (to - from) ≤ d.extent
-  pub low : d.low ≤ to - from
-  pub high : d.high ≤ to - from
+  pub size : long ≡ size_in g device d
+  pub within : from + long ≤ d.extent
+  pub low : d.low ≤ long
+  pub high : d.high ≤ long
 
-pub is_span : (g : List ℕ) (d : Dimension) (device part from to : ℕ) → device < cell_count g → AreAxesOf (length g) d.axes → IsDimension g d
-    → part ≡ place_in g d.axes device → from ≡ offset_at g d part → to ≡ offset_at g d (part + 1) → IsSpan g d device part from to
-unfolding start_in size_in part_of part_size
-is_span g d device part from to h m ok e es ee =
+pub is_span : (g : List ℕ) (d : Dimension) (device part from size : ℕ) → device < cell_count g → AreAxesOf (length g) d.axes → IsDimension g d
+    → part ≡ place_in g d.axes device → from ≡ offset_at g d part → size ≡ part_size g d part → IsSpan g d device from size
+unfolding start_in size_in part_of
+is_span g d device part from size h m ok e es ee =
     let at = is_placed g device d h m ok in
-    let ends = part-ends g d (place_in g d.axes device) ok.divided at.below in
     let start' : from ≡ offset_at g d (place_in g d.axes device) = es ∙ ap (offset_at g d) e in
-    let end' : to ≡ offset_at g d (place_in g d.axes device + 1) = ee ∙ ap (λ z. offset_at g d (z + 1)) e in
-    let joined : offset_at g d (place_in g d.axes device) + (offset_at g d (place_in g d.axes device + 1) - offset_at g d (place_in g d.axes device)) ≡ offset_at g d (place_in g d.axes device + 1) = ends.0 in
-    let below : place_in g d.axes device < parts_of g d = at.below in
-    let fits : offset_at g d (place_in g d.axes device) + (offset_at g d (place_in g d.axes device + 1) - offset_at g d (place_in g d.axes device)) ≤ d.extent = at.fits in
-    let low : d.low ≤ offset_at g d (place_in g d.axes device + 1) - offset_at g d (place_in g d.axes device) = at.low in
-    let high : d.high ≤ offset_at g d (place_in g d.axes device + 1) - offset_at g d (place_in g d.axes device) = at.high in
-    record { part_below = omega arith; ordered = omega arith; start = start'; size = omega arith; within = omega arith; low = omega arith; high = omega arith }
-
--- a device's part number is a small one
-pub part-few : (g : List ℕ) (d : Dimension) (part : ℕ) → IsGrid g → AreAxesOf (length g) d.axes → part < group_size_of g d.axes → part < 1024
-part-few g d part ok m l =
-    let few = group_size_of-le g d.axes (cell_count-some g ok.positive) m in
-    let small = ok.small in
-    omega arith
+    let size' : size ≡ part_size g d (place_in g d.axes device) = ee ∙ ap (part_size g d) e in
+    let fits : offset_at g d (place_in g d.axes device) + part_size g d (place_in g d.axes device) ≤ d.extent = at.fits in
+    let low : d.low ≤ part_size g d (place_in g d.axes device) = at.low in
+    let high : d.high ≤ part_size g d (place_in g d.axes device) = at.high in
+    record { start = start'; size = size'; within = omega arith; low = omega arith; high = omega arith }
 
 -- the same of a sharding whose fields the code reads
 pub read_through : (v s : ShardingValue) (dim : ℕ) (d : Dimension) → v ≡ s → IsSharding v → dim < length s.dimensions → d ≡ get_or v.dimensions dim d → IsRead s dim d

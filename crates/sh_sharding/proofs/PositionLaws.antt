@@ -7,7 +7,7 @@ use Rattle.std.proofs.lemmas.Nat.{mul-le}
 use Rattle.std.proofs.Math.Nat.{mul-le-mul_right}
 use Rattle.sh_base.specs.declared.numbers.Cell.{Cell}
 use Rattle.sh_base.specs.declared.numbers.Cell.TheVariants.{Undef}
-use Rattle.sh_base.specs.Shape.{cell_count, IsIndexOf, flat_of}
+use Rattle.sh_base.specs.Shape.{cell_count, IsIndexOf, flat_of, max_cells}
 use Rattle.sh_base.proofs.ShapeLaws.{flat_of-below}
 use Rattle.sh_grid.specs.Grid.{GridValue}
 use Rattle.sh_sharding.specs.declared.shardings.Dimension.{Dimension}
@@ -138,17 +138,17 @@ placed_at g device (d ∷ ds) (suc k) e h l = placed_at g device ds k e h.1 (ome
 -- what the code asks for one dimension more, and what it has then
 pub record IsPositionStep (g : List ℕ) (device : ℕ) (ds : List Dimension) (k : ℕ) (positions : List Position) (stride : Position) (d : Dimension) (start size : ℕ) : Type 0 where
   pub small : All IsSmall positions
-  pub ends : start + size ≤ 1048576
-  pub local_ends : d.low + size + d.high ≤ 3145728
-  pub whole_few : (start + size) * stride.whole ≤ 1048576
-  pub local_few : (d.low + size) * stride.local ≤ 1048576
-  pub whole_next : d.extent * stride.whole ≤ 1048576
-  pub local_next : (d.low + size + d.high) * stride.local ≤ 1048576
+  pub ends : start + size ≤ max_cells
+  pub local_ends : d.low + size + d.high ≤ (3 * max_cells)
+  pub whole_few : (start + size) * stride.whole ≤ max_cells
+  pub local_few : (d.low + size) * stride.local ≤ max_cells
+  pub whole_next : d.extent * stride.whole ≤ max_cells
+  pub local_next : (d.low + size + d.high) * stride.local ≤ max_cells
   pub next : (out : List Position) → AreExtended positions stride (record { whole = start; local = d.low }) size out
       → AreOwnFrom g device ds k out (record { whole = d.extent * stride.whole; local = (d.low + size + d.high) * stride.local })
 
 step_at : (s : ShardingValue) (device k : ℕ) (positions : List Position) (stride : Position) (start size : ℕ) → IsSharding s → device < cell_count s.grid.extents → k < length s.dimensions
-    → start ≡ start_in s.grid.extents device (get_or s.dimensions k (unsplit 0)) → size ≡ size_in s.grid.extents device (get_or s.dimensions k (unsplit 0)) → (get_or s.dimensions k (unsplit 0)).extent ≤ 1048576
+    → start ≡ start_in s.grid.extents device (get_or s.dimensions k (unsplit 0)) → size ≡ size_in s.grid.extents device (get_or s.dimensions k (unsplit 0)) → (get_or s.dimensions k (unsplit 0)).extent ≤ max_cells
     → AreOwnFrom s.grid.extents device s.dimensions (k + 1) positions stride → IsPositionStep s.grid.extents device s.dimensions k positions stride (get_or s.dimensions k (unsplit 0)) start size
 unfolding local_extent
 step_at s device k positions stride start size ok l lk es ez few h =
@@ -166,8 +166,8 @@ step_at s device k positions stride start size ok l lk es ez few h =
     let extent : d.low + size_in g device d + d.high ≡ d.low + size + d.high = omega arith in
     let locals : cell_count (map (local_extent g device) (drop k ds)) ≡ (d.low + size + d.high) * stride.local =
     ap (λ z. cell_count (map (local_extent g device) z)) apart ∙ ap₂ (λ m n. m * n) extent (sym h.locals) in
-    let whole_all : counted_cells (whole_of s) ≤ 1048576 = ok.small in
-    let local_all : counted_cells (local_shape s device) ≤ 1048576 = ok.fits device l in
+    let whole_all : counted_cells (whole_of s) ≤ max_cells = ok.small in
+    let local_all : counted_cells (local_shape s device) ≤ max_cells = ok.fits device l in
     let whole_here : cell_count (map (λ d. d.extent) (drop k ds)) ≤ counted_cells (whole_of s) = fewer_from (λ d. d.extent) ds k in
     let local_here : cell_count (map (local_extent g device) (drop k ds)) ≤ counted_cells (local_shape s device) = fewer_from (local_extent g device) ds k in
     let whole_rest : cell_count (map (λ d. d.extent) rest) ≤ counted_cells (whole_of s) = fewer_from (λ d. d.extent) ds (k + 1) in
@@ -190,7 +190,7 @@ step_at s device k positions stride start size ok l lk es ez few h =
     }
 
 pub position_step : (s : ShardingValue) (g : GridValue) (device k n : ℕ) (positions : List Position) (stride : Position) (d : Dimension) (start size : ℕ) → IsSharding s → s.grid ≡ g → device < cell_count g.extents
-    → k < length s.dimensions → n ≡ k + 1 → d ≡ get_or s.dimensions k (unsplit 0) → d.extent ≤ 1048576 → start ≡ start_in g.extents device d → size ≡ size_in g.extents device d
+    → k < length s.dimensions → n ≡ k + 1 → d ≡ get_or s.dimensions k (unsplit 0) → d.extent ≤ max_cells → start ≡ start_in g.extents device d → size ≡ size_in g.extents device d
     → AreOwnFrom g.extents device s.dimensions n positions stride → IsPositionStep g.extents device s.dimensions k positions stride d start size
 position_step s g device k n positions stride d start size ok eg l lk en ed few es ez h =
     let back = sym eg in
@@ -199,7 +199,7 @@ position_step s g device k n positions stride d start size ok eg l lk en ed few 
     let ez' : size ≡ size_in s.grid.extents device f = ez ∙ ap₂ (λ h z. size_in h.extents device z) back ed in
     let h' : AreOwnFrom s.grid.extents device s.dimensions (k + 1) positions stride = subst (λ m. AreOwnFrom s.grid.extents device s.dimensions m positions stride) en (subst (λ z. AreOwnFrom z.extents device s.dimensions n positions stride) back h) in
     let l' : device < cell_count s.grid.extents = subst (λ z. device < cell_count z.extents) back l in
-    let few' : f.extent ≤ 1048576 = subst (λ z. z.extent ≤ 1048576) ed few in
+    let few' : f.extent ≤ max_cells = subst (λ z. z.extent ≤ max_cells) ed few in
     subst (λ z. IsPositionStep z.extents device s.dimensions k positions stride d start size) eg
     (subst (λ z. IsPositionStep s.grid.extents device s.dimensions k positions stride z start size) (sym ed) (step_at s device k positions stride start size ok l' lk es' ez' few' h'))
 
@@ -277,7 +277,7 @@ least_less positions i d part cells least li less apart h =
     subst (λ z. IsLeastDiffering z part cells (get_or positions i d).whole) (sym (take_more positions i d li)) (least_found (take i positions) (get_or positions i d) part cells least less apart h)
 
 -- the whole has few cells
-pub cells_few : (s : ShardingValue) → IsSharding s → cell_count (whole_of s) ≤ 1048576
+pub cells_few : (s : ShardingValue) → IsSharding s → cell_count (whole_of s) ≤ max_cells
 cells_few s ok =
     let small = ok.small in
     let here = fewer_from (λ d. d.extent) s.dimensions 0 in

@@ -1,26 +1,26 @@
 -- What is written of a sharding is admitted, and stands for the sharding.
-use Rattle.std.proofs.Common.{◌≡◌, ◌≢◌, ℕ, ◌+◌, ◌*◌, ◌/◌, ◌%◌, ◌<◌, ◌≤◌, inl, inr, List, [], ◌∷◌, ◌++◌, length, get_or, map, take, drop, Bool, true, false, cond, refl, ap, ap₂, sym, ◌∙◌, arith, subst, ℤ, pos}
-use Rattle.std.specs.Prelude.{◌≤ℤ◌, ◌==◌, ◌||◌, nat_lt, count_by, if◌then◌else◌}
+use Rattle.sh_base.specs.Shape.{max_cells}
+use Rattle.std.proofs.Common.{not, ◌≡◌, ℕ, ◌+◌, ◌*◌, ◌≤◌, inl, inr, List, [], ◌∷◌, ◌++◌, length, map, take, drop, Bool, true, false, cond, refl, ap, ap₂, sym, ◌∙◌, arith, subst, ℤ, pos}
+use Rattle.std.specs.Prelude.{◌||◌, nat_lt, count_by, if◌then◌else◌}
 use Rattle.std.specs.List.{All, AllByRecursion, flat_map, list_any}
 use Rattle.std.proofs.lemmas.Int.{ints}
 use Rattle.std.proofs.lemmas.Bool.Decides.{nat_tests}
-use Rattle.std.proofs.lemmas.List.{length-append, length-map, take_at, drop_at, get_or-map}
-use Rattle.std.proofs.lemmas.List.Elements.{All-append, All-cons, All-from_recursion}
-use Rattle.std.proofs.lemmas.List.FromFn.{length-map-range_with_len, fill_by_all}
+use Rattle.std.proofs.lemmas.List.{length-append, length-map, take_at, drop_at}
+use Rattle.std.proofs.lemmas.List.Elements.{All-append, All-cons}
 use Rattle.std.proofs.lemmas.List.Recursion.{is_count_by}
 use Rattle.sh_base.specs.declared.rules.Rule.{Rule}
-use Rattle.sh_base.specs.declared.rules.Rule.TheVariants.{A1, A2, A3, A4, A5, A6, A7, A8}
-use Rattle.sh_grid.specs.Grid.{IsGrid, IsNoneOf, AreAxesOf, group_size_of}
+use Rattle.sh_base.specs.declared.rules.Rule.TheVariants.{A1, A2, A3, A5, A6, A7, A8}
+use Rattle.sh_grid.specs.Grid.{AreAxesOf, group_size_of}
 use Rattle.sh_sharding.specs.declared.shardings.Mark.{Mark}
-use Rattle.sh_sharding.specs.declared.shardings.Mark.TheVariants.{Even, Offsets}
+use Rattle.sh_sharding.specs.declared.shardings.Mark.TheVariants.{Balanced, Offsets}
 use Rattle.sh_sharding.specs.declared.shardings.Dimension.{Dimension}
-use Rattle.sh_sharding.specs.Sharding.{ShardingValue, offset_of, offsets_of, parts_of, unsplit, axes_of, whole_of, local_shape, counted_cells, HasNoHalos, IsEven, IsDivided, IsNormalMark, IsDimension, IsSharding}
-use Rattle.sh_sharding.specs.Admission.{natural, IsBelow, IsNatural, listed_axes, listed, is_split, offset_count, halo_count, with_mark, haloed, mark_of, marked, with_halos, sharding_of, AreOffsets, AreAllOffsets, HalosFit, Keeps, IsAdmitted}
+use Rattle.sh_sharding.specs.Sharding.{ShardingValue, offsets_of, parts_of, unsplit, is_balanced_mark, axes_of, whole_of, local_shape, counted_cells, HasNoHalos, AreBalanced, IsDimension, IsSharding, is_split}
+use Rattle.sh_sharding.specs.Admission.{natural, IsBelow, IsNatural, listed_axes, listed, offset_count, halo_count, with_mark, haloed, mark_of, marked, with_halos, sharding_of, AreOffsets, AreAllOffsets, HalosFit, Keeps, IsAdmitted}
 use Rattle.sh_sharding.specs.Normal.{up_to_last_split}
-use Rattle.sh_sharding.specs.Spelling.{split_of, has_halo, halo_sizes, halos_of, is_uneven, is_uneven_mark, part_offsets, all_offsets_of, raw_of}
+use Rattle.sh_sharding.specs.Spelling.{split_of, has_halo, halo_sizes, halos_of, is_unbalanced, part_offsets, all_offsets_of, raw_of}
+use Rattle.sh_sharding.proofs.AxisListLaws.{listed_once}
 use Rattle.sh_sharding.proofs.PartLaws.{axes_of-each}
-use Rattle.sh_sharding.proofs.AdmissionLaws.{get_or-offsets_of, mark_of-even, mark_of-none, mark_of-written}
-use Rattle.sh_sharding.proofs.DivisionLaws.{some_parts}
+use Rattle.sh_sharding.proofs.MarkLaws.{mark_of-offsets_of, natural-pos, length-offsets_of, are_offsets, mark_of-none}
 use Rattle.sh_sharding.proofs.AdmissionSteps.{halos_stay}
 use Rattle.sh_sharding.proofs.AdmittedLaws.{no_axes, marked_listed}
 use Rattle.sh_sharding.proofs.NormalLaws.{or_parts, some_split, none_split, length-up_to}
@@ -28,10 +28,6 @@ use Rattle.std.proofs.lemmas.Bool.{cases_Bool}
 use Rattle.sh_sharding.proofs.Cases.{not_both}
 
 -- ---- numbers written and read again
-
-natural-pos : (xs : List ℕ) → map natural (map pos xs) ≡ xs
-natural-pos [] = refl
-natural-pos (x ∷ xs) = ap (λ ys. x ∷ ys) (natural-pos xs)
 
 abbrev written_axes : Dimension → List ℤ
 written_axes d = map pos d.axes
@@ -76,25 +72,11 @@ listed-split_of (d ∷ ds) = ap₂ ◌∷◌ (axes_again d) (listed-up_to ds)
 
 -- ---- marks
 
-offsets_of-written : (n p : ℕ) (os : List ℕ) → length os ≡ p + 1 → offsets_of n p (Offsets os) ≡ os
-unfolding offset_of offsets_of
-offsets_of-written n p os counted = sym (fill_by_all (λ k. get_or os k 0) os (p + 1) 0 counted (λ k l. refl))
-
-mark_of-offsets_of : (n p : ℕ) (m : Mark) → IsNormalMark n p m → mark_of n p (offsets_of n p m) ≡ m
-mark_of-offsets_of n p Even h = mark_of-even n p (offsets_of n p Even) refl
-mark_of-offsets_of n p (Offsets os) h =
-    let some : os ≢ [] = λ e. let none : length os ≡ 0 = ap length e in let counted : length os ≡ p + 1 = h.0 in absurd (omega arith) in
-    ap (mark_of n p) (offsets_of-written n p os h.0) ∙ mark_of-written n p os some h.1
-
 part_offsets-split : (g : List ℕ) (d : Dimension) → is_split d ≡ true → part_offsets g d ≡ map pos (offsets_of d.extent (parts_of g d) d.mark)
 part_offsets-split g d h = ap (λ (b : Bool). if b then map pos (offsets_of d.extent (parts_of g d) d.mark) else []) h
 
 part_offsets-whole : (g : List ℕ) (d : Dimension) → is_split d ≡ false → part_offsets g d ≡ []
 part_offsets-whole g d h = ap (λ (b : Bool). if b then map pos (offsets_of d.extent (parts_of g d) d.mark) else []) h
-
-length-offsets_of : (n p : ℕ) (m : Mark) → length (map pos (offsets_of n p m)) ≡ p + 1
-unfolding offsets_of
-length-offsets_of n p m = length-map (offsets_of n p m) pos ∙ length-map-range_with_len (offset_of n p m) 0 (p + 1)
 
 length-part_offsets : (g : List ℕ) (d : Dimension) → length (part_offsets g d) ≡ offset_count g (bare d)
 unfolding offset_count parts_of
@@ -139,37 +121,37 @@ marked-again g (d ∷ ds) ok =
     let cut = is_cut g d (flat_map (part_offsets g) ds) in
     ap₂ ◌∷◌ (ap (with_mark g (bare d)) cut.mine ∙ with_mark-again g d ok.0) (ap (marked g (map bare ds)) cut.others ∙ marked-again g ds ok.1)
 
-even_plain : (ds : List Dimension) → IsEven ds → map bare ds ≡ map plain ds
-even_plain [] h = refl
-even_plain (d ∷ ds) h =
+balanced_plain : (ds : List Dimension) → AreBalanced ds → map bare ds ≡ map plain ds
+balanced_plain [] h = refl
+balanced_plain (d ∷ ds) h =
     let e = sym h.0 in
     let head : bare d ≡ plain d = λ j. record (bare d) { mark = e j } in
-    ap₂ ◌∷◌ head (even_plain ds h.1)
+    ap₂ ◌∷◌ head (balanced_plain ds h.1)
 
-even_mark : (m : Mark) → is_uneven_mark m ≡ false → m ≡ Even
-even_mark Even h = refl
-even_mark (Offsets os) h = absurd (cc)
+balanced_mark : (m : Mark) → not (is_balanced_mark m) ≡ false → m ≡ Balanced
+balanced_mark Balanced h = refl
+balanced_mark (Offsets os) h = absurd (cc)
 
-all_even : (ds : List Dimension) → list_any is_uneven ds ≡ false → IsEven ds
-all_even [] h = tt
-all_even (d ∷ ds) h = let parts = or_parts (is_uneven d) (list_any is_uneven ds) h in (even_mark d.mark parts.0, all_even ds parts.1)
+all_balanced : (ds : List Dimension) → list_any is_unbalanced ds ≡ false → AreBalanced ds
+all_balanced [] h = tt
+all_balanced (d ∷ ds) h = let parts = or_parts (is_unbalanced d) (list_any is_unbalanced ds) h in (balanced_mark d.mark parts.0, all_balanced ds parts.1)
 
-none_uneven : (ds : List Dimension) → IsEven ds → list_any is_uneven ds ≡ false
-none_uneven [] h = refl
-none_uneven (d ∷ ds) h = ap₂ (λ m (b : Bool). is_uneven_mark m || b) h.0 (none_uneven ds h.1)
+none_unbalanced : (ds : List Dimension) → AreBalanced ds → list_any is_unbalanced ds ≡ false
+none_unbalanced [] h = refl
+none_unbalanced (d ∷ ds) h = ap₂ (λ m (b : Bool). not (is_balanced_mark m) || b) h.0 (none_unbalanced ds h.1)
 
-offsets-some : (g : List ℕ) (ds : List Dimension) → list_any is_uneven ds ≡ true → all_offsets_of g ds ≡ flat_map (part_offsets g) ds
+offsets-some : (g : List ℕ) (ds : List Dimension) → list_any is_unbalanced ds ≡ true → all_offsets_of g ds ≡ flat_map (part_offsets g) ds
 offsets-some g ds h = ap (λ (b : Bool). if b then flat_map (part_offsets g) ds else []) h
 
-offsets-none : (g : List ℕ) (ds : List Dimension) → list_any is_uneven ds ≡ false → all_offsets_of g ds ≡ []
+offsets-none : (g : List ℕ) (ds : List Dimension) → list_any is_unbalanced ds ≡ false → all_offsets_of g ds ≡ []
 offsets-none g ds h = ap (λ (b : Bool). if b then flat_map (part_offsets g) ds else []) h
 
 marked-written : (g : List ℕ) (ds : List Dimension) → AllByRecursion (IsDimension g) ds → marked g (map bare ds) (all_offsets_of g ds) ≡ map plain ds
-marked-written g ds ok = elim (cases_Bool (list_any is_uneven ds)) [
+marked-written g ds ok = elim (cases_Bool (list_any is_unbalanced ds)) [
   | inl some ↦ ap (marked g (map bare ds)) (offsets-some g ds some) ∙ marked-again g ds ok
   | inr none ↦
       let stay : map bare ds ≡ marked g (map bare ds) [] = subst (λ xs. xs ≡ marked g xs []) (listed-split_of ds) (marked_listed g (split_of ds) (extents ds)) in
-      ap (marked g (map bare ds)) (offsets-none g ds none) ∙ sym stay ∙ even_plain ds (all_even ds none)
+      ap (marked g (map bare ds)) (offsets-none g ds none) ∙ sym stay ∙ balanced_plain ds (all_balanced ds none)
 ]
 
 -- ---- halos
@@ -294,40 +276,6 @@ listed_axes-split_of : (ds : List Dimension) → listed_axes (split_of ds) ≡ a
 listed_axes-split_of [] = refl
 listed_axes-split_of (d ∷ ds) = ap₂ ◌++◌ (natural-pos d.axes) (listed_axes-written (up_to_last_split ds) ∙ axes_of-up_to ds)
 
-times : ℕ → List ℕ → ℕ
-times a [] = 0
-times a (x ∷ xs) = cond (x == a) (1 + times a xs) (times a xs)
-
-times_none : (a x : ℕ) (xs : List ℕ) → IsNoneOf x xs → x ≡ a → times a xs ≡ 0
-unfolding times
-times_none a x [] none e = refl
-times_none a x (y ∷ xs) none e =
-    let apart : x ≢ y = none.0 in
-    let other : (y == a) ≡ false = grind (arith, nat_tests) in
-    ap (λ (b : Bool). cond b (1 + times a xs) (times a xs)) other ∙ times_none a x xs none.1 e
-
-times_once : (rank a : ℕ) (xs : List ℕ) → AreAxesOf rank xs → times a xs ≤ 1
-unfolding times
-times_once rank a [] m = omega arith
-times_once rank a (x ∷ xs) m = elim (cases_Bool (x == a)) [
-  | inl same ↦
-      let e : x ≡ a = grind (arith, nat_tests) in
-      let none = times_none a x xs m.1 e in
-      let count = ap (λ (b : Bool). cond b (1 + times a xs) (times a xs)) same in
-      omega arith
-  | inr other ↦
-      let rec = times_once rank a xs m.2 in
-      let count = ap (λ (b : Bool). cond b (1 + times a xs) (times a xs)) other in
-      omega arith
-]
-
--- no axis is listed twice
-listed_once : (rank a : ℕ) (xs : List ℕ) → AreAxesOf rank xs → count_by (λ b. b == a) xs ≤ 1
-unfolding times
-listed_once rank a xs m =
-    let same : times a xs ≡ count_by (λ b. b == a) xs = is_count_by (times a) (λ b. b == a) refl (λ x ys. refl) xs in
-    rw (← same) (times_once rank a xs m)
-
 length-split_of : (ds : List Dimension) → length (split_of ds) ≤ length (extents ds)
 length-split_of [] = omega arith
 length-split_of (d ∷ ds) =
@@ -335,63 +283,6 @@ length-split_of (d ∷ ds) =
     omega (arith, length-map (up_to_last_split ds) written_axes, length-map ds (λ d. d.extent))
 
 -- ---- rules on offsets
-
-even_divides : (n p : ℕ) → 0 < p → IsDivided n p Even → n % p ≡ 0
-unfolding offset_of
-even_divides n p some h =
-    let ends : p * (n / p) ≡ n = h.ends in
-    let whole : p * (n / p) + n % p ≡ n = omega arith in
-    omega arith
-
-even_divisible : (g : List ℕ) (ds : List Dimension) → IsGrid g → AllByRecursion (λ d. AreAxesOf (length g) d.axes) ds → AllByRecursion (IsDimension g) ds → IsEven ds → AllByRecursion (λ d. d.extent % parts_of g d ≡ 0) (map bare ds)
-unfolding parts_of
-even_divisible g [] grid m ok even = tt
-even_divisible g (d ∷ ds) grid m ok even = (
-  even_divides d.extent (group_size_of g d.axes) (some_parts g d grid m.0) (subst (IsDivided d.extent (group_size_of g d.axes)) even.0 ok.0.divided),
-  even_divisible g ds grid m.1 ok.1 even.1,
-)
-
-append_none : (xs ys : List ℤ) → xs ++ ys ≡ [] → (xs ≡ []) × (ys ≡ [])
-append_none [] ys h = (refl, h)
-append_none (x ∷ xs) ys h = absurd (cc)
-
-mark_even : (g : List ℕ) (d : Dimension) → IsDimension g d → part_offsets g d ≡ [] → d.mark ≡ Even
-mark_even g d ok none = elim (cases_Bool (is_split d)) [
-  | inl split ↦
-      let counted = length-offsets_of d.extent (parts_of g d) d.mark in
-      let empty : length (map pos (offsets_of d.extent (parts_of g d) d.mark)) ≡ 0 = ap length (sym (part_offsets-split g d split) ∙ none) in
-      absurd (omega arith)
-  | inr whole ↦ ap (λ x. x.mark) (whole_dimension g d ok whole)
-]
-
-none_even : (g : List ℕ) (ds : List Dimension) → AllByRecursion (IsDimension g) ds → flat_map (part_offsets g) ds ≡ [] → IsEven ds
-none_even g [] ok h = tt
-none_even g (d ∷ ds) ok h =
-    let both = append_none (part_offsets g d) (flat_map (part_offsets g) ds) h in
-    (mark_even g d ok.0 both.0, none_even g ds ok.1 both.1)
-
--- where no offsets are written, all dimensions are divided evenly
-unwritten_even : (g : List ℕ) (ds : List Dimension) → AllByRecursion (IsDimension g) ds → all_offsets_of g ds ≡ [] → IsEven ds
-unwritten_even g ds ok h = elim (cases_Bool (list_any is_uneven ds)) [
-  | inl some ↦ none_even g ds ok (sym (offsets-some g ds some) ∙ h)
-  | inr none ↦ all_even ds none
-]
-
-offset_written : (n p : ℕ) (m : Mark) (k : ℕ) → k < p + 1 → get_or (map pos (offsets_of n p m)) k (pos 0) ≡ pos (offset_of n p m k)
-offset_written n p m k l =
-    let within : k < length (offsets_of n p m) = omega (arith, length-offsets_of n p m, length-map (offsets_of n p m) pos) in
-    get_or-map pos (offsets_of n p m) k 0 (pos 0) within ∙ ap pos (get_or-offsets_of n p m k l)
-
-are_offsets : (n p : ℕ) (m : Mark) → IsDivided n p m → AreOffsets n p (map pos (offsets_of n p m))
-are_offsets n p m h = record {
-  counted = length-offsets_of n p m;
-  begins = offset_written n p m 0 (omega arith) ∙ ap pos h.begins;
-  rises = λ i l.
-      let rise : offset_of n p m i ≤ offset_of n p m (i + 1) = h.rises i l in
-      let both : pos (offset_of n p m i) ≤ℤ pos (offset_of n p m (i + 1)) = omega (arith, ints) in
-      rw (offset_written n p m i (omega arith), offset_written n p m (i + 1) (omega arith)) both;
-  ends = offset_written n p m p (omega arith) ∙ ap pos h.ends;
-}
 
 all_offsets : (g : List ℕ) (ds : List Dimension) → AllByRecursion (IsDimension g) ds → AreAllOffsets g (map bare ds) (flat_map (part_offsets g) ds)
 unfolding parts_of
@@ -456,14 +347,9 @@ keeps : (s : ShardingValue) → IsSharding s → (rule : Rule) → Keeps rule s.
 keeps s ok A1 = split_below (length s.grid.extents) s.dimensions (axes_of-each (length s.grid.extents) s.dimensions ok.axes)
 keeps s ok A2 = λ a. rw (listed_axes-split_of s.dimensions) (listed_once (length s.grid.extents) a (axes_of s.dimensions) ok.axes)
 keeps s ok A3 = length-split_of s.dimensions
-keeps s ok A4 = λ none.
-    let g = s.grid.extents in
-    let even = unwritten_even g s.dimensions ok.dimensions none in
-    let divisible = even_divisible g s.dimensions ok.grid (axes_of-each (length g) s.dimensions ok.axes) ok.dimensions even in
-    subst (All (λ d. d.extent % parts_of g d ≡ 0)) (sym (listed-split_of s.dimensions)) (All-from_recursion (λ d. d.extent % parts_of g d ≡ 0) (map bare s.dimensions) divisible)
 keeps s ok A5 = λ given.
     let g = s.grid.extents in
-    elim (cases_Bool (list_any is_uneven s.dimensions)) [
+    elim (cases_Bool (list_any is_unbalanced s.dimensions)) [
       | inl some ↦
           subst (λ ds. AreAllOffsets g ds (all_offsets_of g s.dimensions)) (sym (listed-split_of s.dimensions))
           (subst (AreAllOffsets g (map bare s.dimensions)) (sym (offsets-some g s.dimensions some)) (all_offsets g s.dimensions ok.dimensions))
@@ -471,9 +357,9 @@ keeps s ok A5 = λ given.
     ]
 keeps s ok A6 = λ given.
     let g = s.grid.extents in
-    elim (cases_Bool (list_any is_uneven s.dimensions)) [
+    elim (cases_Bool (list_any is_unbalanced s.dimensions)) [
       | inl some ↦
-          let none = none_haloed s.dimensions (ok.one_mark (λ even. not_both (list_any is_uneven s.dimensions) some (none_uneven s.dimensions even))) in
+          let none = none_haloed s.dimensions (ok.one_mark (λ all. not_both (list_any is_unbalanced s.dimensions) some (none_unbalanced s.dimensions all))) in
           absurd (given (halos-none s.dimensions none))
       | inr none ↦ offsets-none g s.dimensions none
     ]
@@ -488,7 +374,7 @@ keeps s ok A7 = λ given. elim (cases_Bool (list_any has_halo s.dimensions)) [
 ]
 keeps s ok A8 = (
   subst (AllByRecursion (HalosFit s.grid.extents)) (sym (again s ok)) (each_fits s.grid.extents s.dimensions ok.dimensions),
-  λ device l. subst (λ z. counted_cells (local_shape z device) ≤ 1048576) (sym (spelling_again s ok)) (ok.fits device l),
+  λ device l. subst (λ z. counted_cells (local_shape z device) ≤ max_cells) (sym (spelling_again s ok)) (ok.fits device l),
 )
 keeps s ok _ = tt
 

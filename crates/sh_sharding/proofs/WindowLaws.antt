@@ -8,7 +8,7 @@ use Rattle.std.proofs.lemmas.Nat.{mul-le}
 use Rattle.std.proofs.Math.Nat.{mul-le-mul_left, mul-le-mul_right}
 use Rattle.sh_base.specs.declared.numbers.Cell.{Cell}
 use Rattle.sh_base.specs.declared.numbers.Cell.TheVariants.{Undef}
-use Rattle.sh_base.specs.Shape.{cell_count, IsIndexOf, flat_of}
+use Rattle.sh_base.specs.Shape.{cell_count, IsIndexOf, flat_of, max_cells}
 use Rattle.sh_base.proofs.IndexLaws.{IsIndexOf-set, IsIndexOf-entry, IsIndexOf-long, cell_count-set}
 use Rattle.sh_tensor.specs.Tensor.{TensorValue, IsTensor, at, build, slice_of, CanJoin, IsLike, joined_shape, joined_at, concat_of}
 use Rattle.sh_tensor.proofs.TensorLaws.{at-build, build-ext, build-at, is_build, IsTensor-build}
@@ -308,7 +308,7 @@ padded_shape-le g c (suc k) (d ∷ ds) ok =
     mul-le (before_in g c d + taken_in g c d + after_in g c d) (cell_count (padded_shape g c k ds)) (max 1 (local_extent g c d)) (counted_cells (map (local_extent g c) ds)) (omega arith) rec
 
 -- what the code asks when it pads dimension k of a cut
-pub padded_small : (s : ShardingValue) (c k : ℕ) → IsSharding s → c < cell_count s.grid.extents → cell_count (padded_shape s.grid.extents c k s.dimensions) ≤ 1048576
+pub padded_small : (s : ShardingValue) (c k : ℕ) → IsSharding s → c < cell_count s.grid.extents → cell_count (padded_shape s.grid.extents c k s.dimensions) ≤ max_cells
 padded_small s c k ok l =
     let le = padded_shape-le s.grid.extents c k s.dimensions (placed s c ok l) in
     let fits = ok.fits c l in
@@ -388,13 +388,13 @@ shape-padded_by g c k ds t = refl
 
 pub record IsPadStep (g : List ℕ) (c : ℕ) (ds : List Dimension) (u : TensorValue) (k : ℕ) (part : TensorValue) (before after : ℕ) : Type 0 where
   pub ranked : k < length part.shape
-  pub extent : before + get_or part.shape k 0 + after ≤ 3145728
-  pub small : cell_count (set part.shape k (before + get_or part.shape k 0 + after)) ≤ 1048576
+  pub extent : before + get_or part.shape k 0 + after ≤ (3 * max_cells)
+  pub small : cell_count (set part.shape k (before + get_or part.shape k 0 + after)) ≤ max_cells
   pub next : padded_of part k before after ≡ padded_by g c ds u (k + 1)
 
 pub pad_step : (s : ShardingValue) (g : GridValue) (c : ℕ) (u : TensorValue) (k : ℕ) (part : TensorValue) (d : Dimension) (before taken after : ℕ) → IsSharding s → s.grid ≡ g → c < cell_count g.extents
     → k < length s.dimensions → part ≡ padded_by g.extents c s.dimensions u k
-    → d ≡ get_or s.dimensions k (unsplit 0) → before ≡ before_in g.extents c d → taken ≡ taken_in g.extents c d → after ≡ after_in g.extents c d → before + taken + after ≤ 3145728
+    → d ≡ get_or s.dimensions k (unsplit 0) → before ≡ before_in g.extents c d → taken ≡ taken_in g.extents c d → after ≡ after_in g.extents c d → before + taken + after ≤ (3 * max_cells)
     → IsPadStep g.extents c s.dimensions u k part before after
 pad_step s g c u k part d before taken after ok eg l lk e ed eb et ea few =
     let ds = s.dimensions in
@@ -408,7 +408,7 @@ pad_step s g c u k part d before taken after ok eg l lk e ed eb et ea few =
     let sum : before + get_or part.shape k 0 + after ≡ before_in g.extents c f + taken_in g.extents c f + after_in g.extents c f = omega arith in
     let whole : set part.shape k (before + get_or part.shape k 0 + after) ≡ padded_shape g.extents c (suc k) ds =
     ap₂ (λ z n. set z k n) shape sum ∙ padded_shape-more g.extents c k ds (unsplit 0) lk in
-    let small : cell_count (padded_shape g.extents c (suc k) ds) ≤ 1048576 = subst (λ h. cell_count (padded_shape h.extents c (suc k) ds) ≤ 1048576) eg (padded_small s c (suc k) ok l') in
+    let small : cell_count (padded_shape g.extents c (suc k) ds) ≤ max_cells = subst (λ h. cell_count (padded_shape h.extents c (suc k) ds) ≤ max_cells) eg (padded_small s c (suc k) ok l') in
     record {
       ranked = rw (shape, length-padded_shape g.extents c k ds) lk;
       extent = omega arith;

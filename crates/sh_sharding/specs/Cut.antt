@@ -8,20 +8,22 @@ use Rattle.sh_base.specs.Shape.{cell_count, IsIndexOf}
 use Rattle.sh_grid.specs.Grid.{group_size_of, member_of}
 use Rattle.sh_tensor.specs.Tensor.{TensorValue, IsTensor, at, build}
 use Rattle.sh_sharding.specs.declared.shardings.Dimension.{Dimension}
-use Rattle.sh_sharding.specs.Sharding.{ShardingValue, parts_of, part_size, start_in, size_in, local_shape, whole_of, axes_of}
+use Rattle.sh_sharding.specs.Sharding.{ShardingValue, parts_of, offset_at, part_size, start_in, size_in, local_shape, whole_of, axes_of}
 
 -- The index of the whole at which a device's local index stands: start + j - low halo in each dimension.
 abbrev pub whole_index : List ℕ → ℕ → List Dimension → List ℕ → List ℕ
 whole_index g device [] j = []
 whole_index g device (d ∷ ds) [] = []
-whole_index g device (d ∷ ds) (x ∷ j) = (start_in g device d + x - d.low) ∷ whole_index g device ds j
+whole_index g device (d ∷ ds) (x ∷ j) =
+    (start_in g device d + x - d.low) ∷ whole_index g device ds j
 
 -- whether that index lies in the whole
 abbrev pub is_inside : List ℕ → ℕ → List Dimension → List ℕ → Bool
 is_inside g device [] j = true
 is_inside g device (d ∷ ds) [] = true
 is_inside g device (d ∷ ds) (x ∷ j) =
-    nat_le d.low (start_in g device d + x) && nat_lt (start_in g device d + x - d.low) d.extent && is_inside g device ds j
+    nat_le d.low (start_in g device d + x) && nat_lt (start_in g device d + x - d.low) d.extent
+    && is_inside g device ds j
 
 -- the cell of a device's local tensor at a local index: undefined where the halo leaves the whole
 abbrev pub cut_cell : ShardingValue → TensorValue → ℕ → List ℕ → Cell
@@ -41,7 +43,8 @@ abbrev pub OwnsIn : List ℕ → ℕ → List Dimension → List ℕ → Type 0
 OwnsIn g device [] i = Unit {0}
 OwnsIn g device (d ∷ ds) [] = ⊥
 OwnsIn g device (d ∷ ds) (x ∷ i) =
-    (start_in g device d ≤ x) × (x < start_in g device d + size_in g device d) × OwnsIn g device ds i
+    (start_in g device d ≤ x) × (x < start_in g device d + size_in g device d)
+    × OwnsIn g device ds i
 
 abbrev pub Owns : ShardingValue → ℕ → List ℕ → Type 0
 Owns s device i = OwnsIn s.grid.extents device s.dimensions i
@@ -50,7 +53,8 @@ Owns s device i = OwnsIn s.grid.extents device s.dimensions i
 abbrev pub local_index : List ℕ → ℕ → List Dimension → List ℕ → List ℕ
 local_index g device [] i = []
 local_index g device (d ∷ ds) [] = []
-local_index g device (d ∷ ds) (x ∷ i) = (d.low + (x - start_in g device d)) ∷ local_index g device ds i
+local_index g device (d ∷ ds) (x ∷ i) =
+    (d.low + (x - start_in g device d)) ∷ local_index g device ds i
 
 -- the cell that a device holds for an index of the whole that it owns
 abbrev pub held_cell : ShardingValue → TensorValue → ℕ → List ℕ → Cell
@@ -67,21 +71,27 @@ pub record HasOneOwner (s : ShardingValue) (device : ℕ) (i : List ℕ) : Type 
 
 -- Two tensors of one shape and width whose cuts are equal on all devices are equal.
 pub record CutsDetermine (s : ShardingValue) : Type 0 where
-  pub same : (t u : TensorValue) → IsTensor t → IsTensor u → t.shape ≡ whole_of s → u.shape ≡ whole_of s → t.width ≡ u.width
-      → ((device : ℕ) → device < cell_count s.grid.extents → cut_of s t device ≡ cut_of s u device) → t ≡ u
+  pub same : (t u : TensorValue) → IsTensor t → IsTensor u → t.shape ≡ whole_of s
+      → u.shape ≡ whole_of s → t.width ≡ u.width
+      → ((device : ℕ) → device < cell_count s.grid.extents
+      → cut_of s t device ≡ cut_of s u device) → t ≡ u
 
 -- A cut holds, for each index that its device owns, the tensor's cell.
 pub record HoldsOwned (s : ShardingValue) : Type 0 where
-  pub cell : (t : TensorValue) (device : ℕ) (i : List ℕ) → IsIndexOf (whole_of s) i → Owns s device i
+  pub cell : (t : TensorValue) (device : ℕ) (i : List ℕ) → IsIndexOf (whole_of s) i
+      → Owns s device i
       → held_cell s (cut_of s t device) device i ≡ at t i
 
--- The sizes of a dimension's parts sum to its extent.
+-- A part begins where the sizes of the parts before it end, and the sizes of all sum to the extent.
 pub record SizesSum (g : List ℕ) (d : Dimension) : Type 0 where
+  pub before : (part : ℕ) → part ≤ parts_of g d
+      → sum (map (part_size g d) (range_with_len 0 part)) ≡ offset_at g d part
   pub total : sum (map (part_size g d) (range_with_len 0 (parts_of g d))) ≡ d.extent
 
--- An element operation on two tensors commutes with the cuts: the cut of the result has, at each local
--- index, the operation's cell on the cells of the cuts.
+-- An element operation commutes with the cuts, whatever the number of its operands: the cut of the
+-- result has, at each local index, the operation's cell on the cells of the operands' cuts.
 pub record CutsElementwise (s : ShardingValue) : Type 0 where
-  pub commutes : (w : Width) (f : Cell → Cell → Cell) (x y : TensorValue) (device : ℕ) → device < cell_count s.grid.extents
-      → cut_of s (build (whole_of s) w (λ i. f (at x i) (at y i))) device
-      ≡ build (local_shape s device) w (λ j. f (at (cut_of s x device) j) (at (cut_of s y device) j))
+  pub commutes : (w : Width) (f : List Cell → Cell) (operands : List TensorValue) (device : ℕ)
+      → device < cell_count s.grid.extents
+      → cut_of s (build (whole_of s) w (λ i. f (map (λ x. at x i) operands))) device
+      ≡ build (local_shape s device) w (λ j. f (map (λ x. at (cut_of s x device) j) operands))

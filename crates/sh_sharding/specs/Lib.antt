@@ -1,9 +1,14 @@
 pub mod Sharding
 pub mod Cut
 pub mod Admission
+pub mod Carried
 pub mod Windows
 pub mod LocalTypes
 pub mod Normal
 pub mod Spelling
 pub mod Together
+pub mod Views
+pub mod Made
+pub mod Order
+pub mod Laws
 pub mod Positions

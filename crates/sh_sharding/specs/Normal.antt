@@ -3,8 +3,7 @@ use Rattle.std.specs.Prelude.{◌≡◌, ℕ, List, [], ◌∷◌, map, if◌the
 use Rattle.std.specs.List.{list_any}
 use Rattle.sh_sharding.specs.declared.shardings.Mark.{Mark}
 use Rattle.sh_sharding.specs.declared.shardings.Dimension.{Dimension}
-use Rattle.sh_sharding.specs.Sharding.{ShardingValue}
-use Rattle.sh_sharding.specs.Admission.{is_split}
+use Rattle.sh_sharding.specs.Sharding.{ShardingValue, is_split}
 
 -- how a dimension is divided, whatever its extent
 pub record Division : Type 0 where

@@ -3,7 +3,7 @@ use Rattle.std.specs.Prelude.{◌≡◌, ◌≢◌, ℕ, ◌+◌, ◌*◌, ◌<�
 use Rattle.sh_base.specs.declared.numbers.Cell.{Cell}
 use Rattle.sh_base.specs.declared.numbers.Cell.TheVariants.{Undef}
 use Rattle.sh_base.specs.Cells.{IsCellOf}
-use Rattle.sh_base.specs.Shape.{cell_count, IsIndexOf, flat_of}
+use Rattle.sh_base.specs.Shape.{cell_count, max_cells, IsIndexOf, flat_of}
 use Rattle.sh_tensor.specs.Tensor.{TensorValue}
 use Rattle.sh_sharding.specs.declared.shardings.Dimension.{Dimension}
 use Rattle.sh_sharding.specs.declared.positions.Position.{Position}
@@ -23,13 +23,15 @@ position_of g device ds i = record {
   local = flat_of (map (local_extent g device) ds) (local_index g device ds i);
 }
 
-pub record IsPosition (g : List ℕ) (device : ℕ) (ds : List Dimension) (position : Position) : Type 0 where
+pub record IsPosition (g : List ℕ) (device : ℕ) (ds : List Dimension)
+    (position : Position) : Type 0 where
   pub index : List ℕ
   pub own : IsOwn g device ds index
   pub value : position ≡ position_of g device ds index
 
 -- the positions of all that the device owns along these dimensions
-pub record ArePositions (g : List ℕ) (device : ℕ) (ds : List Dimension) (positions : List Position) : Type 0 where
+pub record ArePositions (g : List ℕ) (device : ℕ) (ds : List Dimension)
+    (positions : List Position) : Type 0 where
   pub each : All (IsPosition g device ds) positions
   pub full : (i : List ℕ) → IsOwn g device ds i → Contains positions (position_of g device ds i)
 
@@ -46,7 +48,8 @@ shift_at stride from entry = record {
   local = (from.local + entry) * stride.local;
 }
 
-pub record IsExtended (positions : List Position) (stride from : Position) (size : ℕ) (position : Position) : Type 0 where
+pub record IsExtended (positions : List Position) (stride from : Position) (size : ℕ)
+    (position : Position) : Type 0 where
   pub entry : ℕ
   pub below : entry < size
   pub rest : Position
@@ -54,14 +57,16 @@ pub record IsExtended (positions : List Position) (stride from : Position) (size
   pub value : position ≡ moved (shift_at stride from entry) rest
 
 -- each of the positions at each of so many entries
-pub record AreExtended (positions : List Position) (stride from : Position) (size : ℕ) (out : List Position) : Type 0 where
+pub record AreExtended (positions : List Position) (stride from : Position) (size : ℕ)
+    (out : List Position) : Type 0 where
   pub each : All (IsExtended positions stride from size) out
-  pub full : (entry : ℕ) (rest : Position) → entry < size → Contains positions rest → Contains out (moved (shift_at stride from entry) rest)
+  pub full : (entry : ℕ) (rest : Position) → entry < size → Contains positions rest
+      → Contains out (moved (shift_at stride from entry) rest)
 
 -- numbers that can't overflow in a sum
 pub record IsSmall (position : Position) : Type 0 where
-  pub whole_few : position.whole ≤ 1048576
-  pub local_few : position.local ≤ 1048576
+  pub whole_few : position.whole ≤ max_cells
+  pub local_few : position.local ≤ max_cells
 
 -- ---- cells
 
@@ -71,7 +76,8 @@ pub record IsInside (whole local : ℕ) (position : Position) : Type 0 where
   pub in_local : position.local < local
 
 -- the cell with this number is what the part has at one of its positions
-pub record IsWrittenAt (positions : List Position) (part after : List Cell) (cell : ℕ) : Type 0 where
+pub record IsWrittenAt (positions : List Position) (part after : List Cell)
+    (cell : ℕ) : Type 0 where
   pub position : Position
   pub among : Contains positions position
   pub here : position.whole ≡ cell
@@ -80,8 +86,10 @@ pub record IsWrittenAt (positions : List Position) (part after : List Cell) (cel
 -- the part's cells stand at the positions, and the others are as before
 pub record AreWritten (positions : List Position) (part before after : List Cell) : Type 0 where
   pub long : length after ≡ length before
-  pub own : (position : Position) → Contains positions position → IsWrittenAt positions part after position.whole
-  pub others : (cell : ℕ) → ((position : Position) → Contains positions position → position.whole ≢ cell) → slice_index_or after cell Undef ≡ slice_index_or before cell Undef
+  pub own : (position : Position) → Contains positions position
+      → IsWrittenAt positions part after position.whole
+  pub others : (cell : ℕ) → ((position : Position) → Contains positions position
+      → position.whole ≢ cell) → slice_index_or after cell Undef ≡ slice_index_or before cell Undef
 
 -- the part has another cell there at one of the positions
 pub record DiffersAt (positions : List Position) (part cells : List Cell) (cell : ℕ) : Type 0 where
@@ -91,22 +99,27 @@ pub record DiffersAt (positions : List Position) (part cells : List Cell) (cell 
   pub differs : slice_index_or part position.local Undef ≢ slice_index_or cells cell Undef
 
 -- the least number of a cell where the part differs, or how many cells there are where it doesn't
-pub record IsLeastDiffering (positions : List Position) (part cells : List Cell) (least : ℕ) : Type 0 where
+pub record IsLeastDiffering (positions : List Position) (part cells : List Cell)
+    (least : ℕ) : Type 0 where
   pub within : least ≤ length cells
-  pub alike : (position : Position) → Contains positions position → position.whole < least → slice_index_or part position.local Undef ≡ slice_index_or cells position.whole Undef
+  pub alike : (position : Position) → Contains positions position → position.whole < least
+      → slice_index_or part position.local Undef ≡ slice_index_or cells position.whole Undef
   pub found : least < length cells → DiffersAt positions part cells least
 
 -- ---- all devices
 
 -- each cell is that of its first owner among the devices from the given one on
-pub record IsStanding (s : ShardingValue) (parts : List TensorValue) (from : ℕ) (cells : List Cell) : Type 0 where
+pub record IsStanding (s : ShardingValue) (parts : List TensorValue) (from : ℕ)
+    (cells : List Cell) : Type 0 where
   pub counted : length cells ≡ cell_count (whole_of s)
   pub fitting : All (IsCellOf (part_at parts 0).width) cells
-  pub first : (cell device : ℕ) → cell < cell_count (whole_of s) → from ≤ device → device < cell_count s.grid.extents → OwnsCell s device cell
+  pub first : (cell device : ℕ) → cell < cell_count (whole_of s) → from ≤ device
+      → device < cell_count s.grid.extents → OwnsCell s device cell
       → ((other : ℕ) → from ≤ other → other < device → ¬ OwnsCell s other cell)
       → slice_index_or cells cell Undef ≡ held_at s parts device cell
 
 -- all devices hold the cells that they own
 pub record AreHeld (s : ShardingValue) (parts : List TensorValue) (cells : List Cell) : Type 0 where
-  pub held : (device cell : ℕ) → device < cell_count s.grid.extents → cell < cell_count (whole_of s) → OwnsCell s device cell
+  pub held : (device cell : ℕ) → device < cell_count s.grid.extents
+      → cell < cell_count (whole_of s) → OwnsCell s device cell
       → held_at s parts device cell ≡ slice_index_or cells cell Undef

@@ -1,10 +1,11 @@
 -- Shardings: how the dimensions of a tensor are divided among the devices of a grid.
-use Rattle.std.specs.Prelude.{◌≡◌, ◌≢◌, ℕ, zero, suc, ◌+◌, ◌-◌, ◌*◌, ◌/◌, ◌<◌, ◌≤◌, List, [], length, map, max, slice_index, get_or}
+use Rattle.std.specs.Prelude.{◌≡◌, ◌≢◌, ℕ, zero, suc, ◌+◌, ◌-◌, ◌*◌, ◌%◌, ◌==◌, ◌<◌, ◌≤◌, Bool, true, false, not, ◌&&◌, List, [], ◌∷◌, length, map, min, max, slice_index, get_or}
+use Rattle.std.specs.Int.{div_ceil}
 use Rattle.std.specs.List.{AllByRecursion, flat_map, range_with_len}
-use Rattle.sh_base.specs.Shape.{cell_count}
+use Rattle.sh_base.specs.Shape.{cell_count, max_cells, max_rank}
 use Rattle.sh_grid.specs.Grid.{GridValue, IsGrid, AreAxesOf, group_size_of, place_in}
 use Rattle.sh_sharding.specs.declared.shardings.Mark.{Mark}
-use Rattle.sh_sharding.specs.declared.shardings.Mark.TheVariants.{Even, Offsets}
+use Rattle.sh_sharding.specs.declared.shardings.Mark.TheVariants.{Balanced, Offsets}
 use Rattle.sh_sharding.specs.declared.shardings.Dimension.{Dimension}
 
 -- a sharding as contracts see it: its grid, and how each dimension is divided
@@ -13,10 +14,16 @@ pub record ShardingValue : Type 0 where
   pub dimensions : List Dimension
 
 -- Where part i begins of an extent that is divided into so many parts. Part i ends where part i + 1
--- begins. This is the one place that says how an extent is divided that no offsets are written for.
+-- begins. Without written offsets the division is balanced: each part has the extent over the number
+-- of parts, rounded up, as long as the extent lasts.
 unfoldable pub offset_of : ℕ → ℕ → Mark → ℕ → ℕ
-offset_of extent parts Even i = i * (extent / parts)
+offset_of extent parts Balanced i = min extent (i * div_ceil extent parts)
 offset_of extent parts (Offsets offsets) i = slice_index offsets i
+
+-- how long part i is
+unfoldable pub size_of_part : ℕ → ℕ → Mark → ℕ → ℕ
+size_of_part extent parts mark i =
+    offset_of extent parts mark (i + 1) - offset_of extent parts mark i
 
 -- ---- one dimension, on a grid of these extents
 
@@ -34,16 +41,16 @@ offset_at g d i = offset_of d.extent (parts_of g d) d.mark i
 
 -- how long a part is
 unfoldable pub part_size : List ℕ → Dimension → ℕ → ℕ
-part_size g d i = offset_at g d (i + 1) - offset_at g d i
+part_size g d i = size_of_part d.extent (parts_of g d) d.mark i
 
--- the length of the largest of the first k parts
-abbrev pub largest_to : List ℕ → Dimension → ℕ → ℕ
-largest_to g d zero = 0
-largest_to g d (suc k) = max (largest_to g d k) (part_size g d k)
+-- the largest of the first k sizes
+abbrev pub largest_to : (ℕ → ℕ) → ℕ → ℕ
+largest_to sizes zero = 0
+largest_to sizes (suc k) = max (largest_to sizes k) (sizes k)
 
 -- the extent of the largest local tensor along a dimension, halos included
 abbrev pub largest_local : List ℕ → Dimension → ℕ
-largest_local g d = d.low + largest_to g d (parts_of g d) + d.high
+largest_local g d = d.low + largest_to (part_size g d) (parts_of g d) + d.high
 
 -- where a device's part begins, how long it is, and how long it is with its halos
 unfoldable pub start_in : List ℕ → ℕ → Dimension → ℕ
@@ -54,6 +61,30 @@ size_in g device d = part_size g d (part_of g d device)
 
 unfoldable pub local_extent : List ℕ → ℕ → Dimension → ℕ
 local_extent g device d = d.low + size_in g device d + d.high
+
+-- whether it is split
+abbrev pub is_split_by : List ℕ → Bool
+is_split_by [] = false
+is_split_by (a ∷ axes) = true
+
+abbrev pub is_split : Dimension → Bool
+is_split d = is_split_by d.axes
+
+-- whether it is balanced: the normal form has no offsets for it
+abbrev pub is_balanced_mark : Mark → Bool
+is_balanced_mark Balanced = true
+is_balanced_mark (Offsets offsets) = false
+
+abbrev pub is_balanced : Dimension → Bool
+is_balanced d = is_balanced_mark d.mark
+
+-- whether it is even: split, balanced, and divisible by its number of parts, so that all have one size
+unfoldable pub is_even : List ℕ → Dimension → Bool
+is_even g d = is_split d && (is_balanced d && (d.extent % parts_of g d == 0))
+
+-- whether it is uneven: split and not even
+unfoldable pub is_uneven : List ℕ → Dimension → Bool
+is_uneven g d = is_split d && not (is_even g d)
 
 -- ---- a sharding
 
@@ -67,7 +98,7 @@ axes_of ds = flat_map (λ d. d.axes) ds
 
 -- a dimension that isn't split
 abbrev pub unsplit : ℕ → Dimension
-unsplit extent = record { extent = extent; axes = []; mark = Even; low = 0; high = 0 }
+unsplit extent = record { extent = extent; axes = []; mark = Balanced; low = 0; high = 0 }
 
 -- the dimension with this number
 abbrev pub dimension_of : ShardingValue → ℕ → Dimension
@@ -90,18 +121,20 @@ local_shape s device = map (local_extent s.grid.extents device) s.dimensions
 -- extent.
 pub record IsDivided (extent parts : ℕ) (mark : Mark) : Type 0 where
   pub begins : offset_of extent parts mark 0 ≡ 0
-  pub rises : (i : ℕ) → i < parts → offset_of extent parts mark i ≤ offset_of extent parts mark (i + 1)
+  pub rises : (i : ℕ) → i < parts
+      → offset_of extent parts mark i ≤ offset_of extent parts mark (i + 1)
   pub ends : offset_of extent parts mark parts ≡ extent
 
 -- all offsets in order
 unfoldable pub offsets_of : ℕ → ℕ → Mark → List ℕ
 offsets_of extent parts mark = map (offset_of extent parts mark) (range_with_len 0 (parts + 1))
 
--- The mark of the normal form: `Even` wherever the offsets are those of even parts, and else all
+-- The mark of the normal form: `Balanced` wherever the offsets are the balanced ones, and else all
 -- offsets.
 abbrev pub IsNormalMark : ℕ → ℕ → Mark → Type 0
-IsNormalMark extent parts Even = Unit {0}
-IsNormalMark extent parts (Offsets offsets) = (length offsets ≡ parts + 1) × (offsets ≢ offsets_of extent parts Even)
+IsNormalMark extent parts Balanced = Unit {0}
+IsNormalMark extent parts (Offsets offsets) =
+    (length offsets ≡ parts + 1) × (offsets ≢ offsets_of extent parts Balanced)
 
 -- a dimension whose axes and mark are in order
 pub record IsMarked (g : List ℕ) (d : Dimension) : Type 0 where
@@ -125,19 +158,24 @@ counted_cells s = cell_count (map (max 1) s)
 abbrev pub HasNoHalos : List Dimension → Type 0
 HasNoHalos ds = AllByRecursion (λ d. (d.low ≡ 0) × (d.high ≡ 0)) ds
 
--- no offsets are written in the normal form
-abbrev pub IsEven : List Dimension → Type 0
-IsEven ds = AllByRecursion (λ d. d.mark ≡ Even) ds
+-- all dimensions are balanced: the normal form has no offsets
+abbrev pub AreBalanced : List Dimension → Type 0
+AreBalanced ds = AllByRecursion (λ d. d.mark ≡ Balanced) ds
+
+-- offsets or halos, not both
+abbrev pub HasOneMark : List Dimension → Type 0
+HasOneMark ds = ¬ AreBalanced ds → HasNoHalos ds
 
 -- a sharding that is admitted, in normal form
 pub record IsSharding (s : ShardingValue) : Type 0 where
   pub grid : IsGrid s.grid.extents
   pub axes : AreAxesOf (length s.grid.extents) (axes_of s.dimensions)
   pub dimensions : AllByRecursion (IsDimension s.grid.extents) s.dimensions
-  pub short : length s.dimensions ≤ 6
-  pub one_mark : ¬ IsEven s.dimensions → HasNoHalos s.dimensions
-  pub small : counted_cells (whole_of s) ≤ 1048576
-  pub fits : (device : ℕ) → device < cell_count s.grid.extents → counted_cells (local_shape s device) ≤ 1048576
+  pub short : length s.dimensions ≤ max_rank
+  pub one_mark : HasOneMark s.dimensions
+  pub small : counted_cells (whole_of s) ≤ max_cells
+  pub fits : (device : ℕ) → device < cell_count s.grid.extents
+      → counted_cells (local_shape s device) ≤ max_cells
 
 -- what holds of a sharding in memory, which keeps its whole shape
 pub record IsHeld (whole : List ℕ) (s : ShardingValue) : Type 0 where

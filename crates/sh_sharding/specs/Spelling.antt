@@ -1,12 +1,9 @@
 -- How a sharding is written: the spelling of its normal form.
-use Rattle.std.specs.Prelude.{ℕ, List, [], ◌∷◌, map, flat_map, Bool, true, false, ◌||◌, nat_lt, ℤ, pos, if◌then◌else◌}
+use Rattle.std.specs.Prelude.{ℕ, List, [], ◌∷◌, map, flat_map, Bool, not, ◌||◌, nat_lt, ℤ, pos, if◌then◌else◌}
 use Rattle.std.specs.List.{list_any}
 use Rattle.sh_ir.specs.declared.types.RawSharding.{RawSharding}
-use Rattle.sh_sharding.specs.declared.shardings.Mark.{Mark}
-use Rattle.sh_sharding.specs.declared.shardings.Mark.TheVariants.{Even, Offsets}
 use Rattle.sh_sharding.specs.declared.shardings.Dimension.{Dimension}
-use Rattle.sh_sharding.specs.Sharding.{ShardingValue, parts_of, offsets_of}
-use Rattle.sh_sharding.specs.Admission.{is_split}
+use Rattle.sh_sharding.specs.Sharding.{ShardingValue, parts_of, offsets_of, is_split, is_balanced}
 use Rattle.sh_sharding.specs.Normal.{up_to_last_split}
 
 -- The dimensions whose lists of axes are written: up to the last one that is split, and the first in
@@ -33,20 +30,17 @@ halos_of ds = if list_any has_halo ds then flat_map halo_sizes ds else []
 
 -- ---- offsets
 
-abbrev pub is_uneven_mark : Mark → Bool
-is_uneven_mark Even = false
-is_uneven_mark (Offsets offsets) = true
-
-abbrev pub is_uneven : Dimension → Bool
-is_uneven d = is_uneven_mark d.mark
+-- whether the normal form has offsets for the dimension
+abbrev pub is_unbalanced : Dimension → Bool
+is_unbalanced d = not (is_balanced d)
 
 -- all offsets of a dimension, if it is split
 abbrev pub part_offsets : List ℕ → Dimension → List ℤ
 part_offsets g d = if is_split d then map pos (offsets_of d.extent (parts_of g d) d.mark) else []
 
--- those of all dimensions, unless all are divided evenly
+-- those of all dimensions, unless all are balanced
 abbrev pub all_offsets_of : List ℕ → List Dimension → List ℤ
-all_offsets_of g ds = if list_any is_uneven ds then flat_map (part_offsets g) ds else []
+all_offsets_of g ds = if list_any is_unbalanced ds then flat_map (part_offsets g) ds else []
 
 -- ---- the whole spelling
 

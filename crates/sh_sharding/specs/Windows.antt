@@ -14,19 +14,22 @@ use Rattle.sh_sharding.specs.Cut.{cut_of}
 
 unfoldable pub window_cell : List ℕ → ℕ → Dimension → TensorValue → ℕ → List ℕ → Cell
 window_cell g device d t axis i =
-    if nat_le d.low (start_in g device d + get_or i axis 0) && nat_lt (start_in g device d + get_or i axis 0 - d.low) d.extent
+    if nat_le d.low (start_in g device d + get_or i axis 0)
+    && nat_lt (start_in g device d + get_or i axis 0 - d.low) d.extent
     then at t (set i axis (start_in g device d + get_or i axis 0 - d.low))
     else Undef
 
 -- A device's window of a tensor along one dimension: its part with the halos, undefined where a halo
 -- leaves the tensor.
 unfoldable pub window_of : List ℕ → ℕ → Dimension → TensorValue → ℕ → TensorValue
-window_of g device d t axis = build (set t.shape axis (local_extent g device d)) t.width (window_cell g device d t axis)
+window_of g device d t axis =
+    build (set t.shape axis (local_extent g device d)) t.width (window_cell g device d t axis)
 
 -- the windows along the dimensions from this axis on, one after the other
 abbrev pub windows_of : List ℕ → ℕ → List Dimension → ℕ → TensorValue → TensorValue
 windows_of g device [] axis t = t
-windows_of g device (d ∷ ds) axis t = windows_of g device ds (axis + 1) (window_of g device d t axis)
+windows_of g device (d ∷ ds) axis t =
+    windows_of g device ds (axis + 1) (window_of g device d t axis)
 
 -- A cut is the windows along all dimensions.
 pub record CutsByWindows (s : ShardingValue) : Type 0 where
@@ -68,7 +71,8 @@ padded_cell t axis before i =
 
 unfoldable pub padded_of : TensorValue → ℕ → ℕ → ℕ → TensorValue
 padded_of t axis before after =
-    build (set t.shape axis (before + get_or t.shape axis 0 + after)) t.width (padded_cell t axis before)
+    build (set t.shape axis (before + get_or t.shape axis 0 + after)) t.width
+    (padded_cell t axis before)
 
 -- ---- the first k dimensions
 
@@ -82,22 +86,26 @@ abbrev pub sliced_index : List ℕ → ℕ → ℕ → List Dimension → List �
 sliced_index g device zero ds i = i
 sliced_index g device (suc k) [] i = i
 sliced_index g device (suc k) (d ∷ ds) [] = []
-sliced_index g device (suc k) (d ∷ ds) (x ∷ i) = (from_in g device d + x) ∷ sliced_index g device k ds i
+sliced_index g device (suc k) (d ∷ ds) (x ∷ i) =
+    (from_in g device d + x) ∷ sliced_index g device k ds i
 
 unfoldable pub sliced_by : List ℕ → ℕ → List Dimension → TensorValue → ℕ → TensorValue
-sliced_by g device ds t k = build (sliced_shape g device k ds) t.width (λ i. at t (sliced_index g device k ds i))
+sliced_by g device ds t k =
+    build (sliced_shape g device k ds) t.width (λ i. at t (sliced_index g device k ds i))
 
 -- padded, where all are sliced
 abbrev pub padded_shape : List ℕ → ℕ → ℕ → List Dimension → List ℕ
 padded_shape g device k [] = []
 padded_shape g device zero (d ∷ ds) = taken_in g device d ∷ padded_shape g device zero ds
-padded_shape g device (suc k) (d ∷ ds) = (before_in g device d + taken_in g device d + after_in g device d) ∷ padded_shape g device k ds
+padded_shape g device (suc k) (d ∷ ds) =
+    (before_in g device d + taken_in g device d + after_in g device d) ∷ padded_shape g device k ds
 
 abbrev pub padded_index : List ℕ → ℕ → ℕ → List Dimension → List ℕ → List ℕ
 padded_index g device zero ds i = i
 padded_index g device (suc k) [] i = i
 padded_index g device (suc k) (d ∷ ds) [] = []
-padded_index g device (suc k) (d ∷ ds) (x ∷ i) = (x - before_in g device d) ∷ padded_index g device k ds i
+padded_index g device (suc k) (d ∷ ds) (x ∷ i) =
+    (x - before_in g device d) ∷ padded_index g device k ds i
 
 -- the index lies in what is sliced
 abbrev pub is_taken : List ℕ → ℕ → ℕ → List Dimension → List ℕ → Bool
@@ -105,10 +113,13 @@ is_taken g device zero ds i = true
 is_taken g device (suc k) [] i = true
 is_taken g device (suc k) (d ∷ ds) [] = true
 is_taken g device (suc k) (d ∷ ds) (x ∷ i) =
-    nat_le (before_in g device d) x && nat_lt (x - before_in g device d) (taken_in g device d) && is_taken g device k ds i
+    nat_le (before_in g device d) x && nat_lt (x - before_in g device d) (taken_in g device d)
+    && is_taken g device k ds i
 
 abbrev pub padded_by_cell : List ℕ → ℕ → List Dimension → TensorValue → ℕ → List ℕ → Cell
-padded_by_cell g device ds t k i = if is_taken g device k ds i then at t (padded_index g device k ds i) else Undef
+padded_by_cell g device ds t k i =
+    if is_taken g device k ds i then at t (padded_index g device k ds i) else Undef
 
 unfoldable pub padded_by : List ℕ → ℕ → List Dimension → TensorValue → ℕ → TensorValue
-padded_by g device ds t k = build (padded_shape g device k ds) t.width (padded_by_cell g device ds t k)
+padded_by g device ds t k =
+    build (padded_shape g device k ds) t.width (padded_by_cell g device ds t k)

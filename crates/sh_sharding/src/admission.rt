@@ -1,14 +1,17 @@
 ghost use Rattle.std.specs.Prelude.{◌≡◌, ◌*◌, ◌≤◌, ◌↔◌, All, IfErr, IfOk, IsTrue, OnOk, length};
 ghost use Rattle.sh_grid.specs.Grid.{IsGrid};
-ghost use Rattle.sh_sharding.specs.Admission.{IsAdmitted, IsNatural, IsRefusal, KeepsDivisions, KeepsHalos, KeepsLists, listed, marked, sharding_of};
+ghost use Rattle.sh_sharding.specs.Admission.{IsAdmitted, IsNatural, IsRefusal, Keeps, KeepsAllButSize, KeepsHalos, KeepsLists, listed, marked, sharding_of};
 ghost use Rattle.sh_sharding.specs.Sharding.{counted_cells};
+ghost use Rattle.sh_base.specs.Shape.{max_cells};
+ghost use Rattle.sh_base.specs.declared.rules.Rule.TheVariants.{A5};
 
-use crate::divisions::{are_small, haloed_dimensions, marked_dimensions, split_count};
-use crate::written::{
-    all_listed, are_axes, are_distinct, are_divisible, are_naturals, listed_dimensions,
-};
+use crate::axis_lists::{all_listed, are_axes, are_distinct, listed_dimensions};
+use crate::halo_sizes::{are_halos, haloed_dimensions, split_count};
+use crate::local_sizes::is_local_small;
+use crate::offset_lists::marked_dimensions;
+use crate::views::dimension_views;
 use crate::{Dimension, Sharding};
-use sh_base::{Duplicate, Mem, Rule, Shape, shape};
+use sh_base::{Duplicate, Items, Mem, Rule, Shape, shape};
 use sh_grid::{Grid, extents};
 use sh_ir::RawSharding;
 use std::alloc::Global;
@@ -62,14 +65,12 @@ fn divided(
 ) -> Result<Vec<Dimension>, AdmitRefusal>
     requires grid { IsGrid g.now.extents }
     requires lists { KeepsLists g.now raw.now s.now }
-    ensures kept { IfOk result (λ ds. KeepsDivisions g.now raw.now s.now × (ds.items ≡ marked g.now.extents (listed raw.now.split s.now) raw.now.offsets)) }
+    ensures kept { IfOk result (λ ds. Keeps A5 g.now raw.now s.now
+        × (ds.items ≡ marked g.now.extents (listed raw.now.split s.now) raw.now.offsets)) }
     ensures refused { IfErr result (λ refusal. IsRefusal refusal g.now raw.now s.now) }
 {
     let dimensions = listed_dimensions(alloc, raw.split.as_slice(), s)?;
     if raw.offsets.is_empty() {
-        if !are_divisible(g, dimensions.as_slice()) {
-            return Err(AdmitRefusal::Broken(Rule::A4));
-        }
         return Ok(dimensions);
     }
     let offsets = raw.offsets.as_slice();
@@ -77,13 +78,6 @@ fn divided(
         Some(found) => Ok(found),
         None => Err(AdmitRefusal::Broken(Rule::A5)),
     }
-}
-
-/// Whether these are two halo sizes for each of so many split dimensions, of which none is negative.
-fn are_halos(halos: &[i128], split: usize) -> bool
-    ensures { IsTrue result ↔ ((length halos.now ≡ 2 * split) × All IsNatural halos.now) }
-{
-    halos.len() % 2 == 0 && halos.len() / 2 == split && are_naturals(halos)
 }
 
 /// The dimensions with their halos.
@@ -95,11 +89,13 @@ fn with_written_halos(
     dimensions: Vec<Dimension>,
 ) -> Result<Vec<Dimension>, AdmitRefusal>
     requires grid { IsGrid g.now.extents }
-    requires small { counted_cells s.now ≤ 1048576 }
+    requires small { counted_cells s.now ≤ max_cells }
     requires lists { KeepsLists g.now raw.now s.now }
-    requires divisions { KeepsDivisions g.now raw.now s.now }
-    requires marked { dimensions.items ≡ marked g.now.extents (listed raw.now.split s.now) raw.now.offsets }
-    ensures kept { IfOk result (λ ds. KeepsHalos g.now raw.now s.now × (ds.items ≡ (sharding_of g.now raw.now s.now).dimensions)) }
+    requires divisions { Keeps A5 g.now raw.now s.now }
+    requires marked { dimensions.items ≡
+        marked g.now.extents (listed raw.now.split s.now) raw.now.offsets }
+    ensures kept { IfOk result (λ ds. KeepsHalos g.now raw.now s.now
+        × (ds.items ≡ (sharding_of g.now raw.now s.now).dimensions)) }
     ensures refused { IfErr result (λ refusal. IsRefusal refusal g.now raw.now s.now) }
 {
     let halos = raw.halos.as_slice();
@@ -119,6 +115,27 @@ fn with_written_halos(
     }
 }
 
+/// The dimensions, if the largest local tensor isn't too large.
+fn with_small_parts(
+    g: &Grid,
+    raw: &RawSharding,
+    s: &Shape,
+    dimensions: Vec<Dimension>,
+) -> Result<Vec<Dimension>, AdmitRefusal>
+    requires kept { KeepsAllButSize g.now raw.now s.now }
+    requires dimensions { dimensions.items ≡ (sharding_of g.now raw.now s.now).dimensions }
+    ensures admitted { IfOk result (λ ds. IsAdmitted g.now raw.now s.now
+        × (ds.items ≡ (sharding_of g.now raw.now s.now).dimensions)) }
+    ensures refused { IfErr result (λ refusal. IsRefusal refusal g.now raw.now s.now) }
+{
+    let _short = s.extents();
+    let views = dimension_views(dimensions.as_slice());
+    if !is_local_small(g, &views[..dimensions.len()]) {
+        return Err(AdmitRefusal::Broken(Rule::A8));
+    }
+    Ok(dimensions)
+}
+
 /// The dimensions of the sharding that is written, if it keeps all rules.
 fn admitted_dimensions(
     alloc: Global,
@@ -126,19 +143,16 @@ fn admitted_dimensions(
     raw: &RawSharding,
     s: &Shape,
 ) -> Result<Vec<Dimension>, AdmitRefusal>
-    requires small { counted_cells s.now ≤ 1048576 }
+    requires small { counted_cells s.now ≤ max_cells }
     ensures grid { IsGrid g.now.extents }
-    ensures admitted { IfOk result (λ ds. IsAdmitted g.now raw.now s.now × (ds.items ≡ (sharding_of g.now raw.now s.now).dimensions)) }
+    ensures admitted { IfOk result (λ ds. IsAdmitted g.now raw.now s.now
+        × (ds.items ≡ (sharding_of g.now raw.now s.now).dimensions)) }
     ensures refused { IfErr result (λ refusal. IsRefusal refusal g.now raw.now s.now) }
 {
     check_lists(alloc, g, raw, s)?;
     let marked = divided(alloc, g, raw, s)?;
     let dimensions = with_written_halos(alloc, g, raw, s, marked)?;
-    if are_small(g, dimensions.as_slice()) {
-        Ok(dimensions)
-    } else {
-        Err(AdmitRefusal::Broken(Rule::A8))
-    }
+    with_small_parts(g, raw, s, dimensions)
 }
 
 /// The sharding that is written for a tensor of a shape, in normal form.
@@ -150,7 +164,6 @@ fn admitted_dimensions(
 /// - A1: each listed axis is one of the grid's.
 /// - A2: no axis is listed twice.
 /// - A3: there are no more lists than dimensions.
-/// - A4: without offsets, the number of parts of each split dimension divides its extent.
 /// - A5: offsets are, for each split dimension in order, the start of each part and then the extent: 0
 ///   first, none less than the one before.
 /// - A6: there are halo sizes or offsets, not both.
@@ -164,8 +177,9 @@ pub fn admit(
     s: &Shape,
 ) -> Result<Sharding, AdmitRefusal>
     requires grid { raw.now.grid ≡ g.now.name }
-    requires small { counted_cells s.now ≤ 1048576 }
-    ensures admitted { IfOk result (λ sharding. IsAdmitted g.now raw.now s.now × (sharding ≡ sharding_of g.now raw.now s.now)) }
+    requires small { counted_cells s.now ≤ max_cells }
+    ensures admitted { IfOk result (λ sharding. IsAdmitted g.now raw.now s.now
+        × (sharding ≡ sharding_of g.now raw.now s.now)) }
     ensures refused { IfErr result (λ refusal. IsRefusal refusal g.now raw.now s.now) }
 {
     let grid = g.duplicate(alloc)?;
@@ -173,6 +187,6 @@ pub fn admit(
     Ok(Sharding {
         grid,
         whole: shape(alloc, s.extents()),
-        dimensions,
+        dimensions: Items::from_vec(dimensions),
     })
 }

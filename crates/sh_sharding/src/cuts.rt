@@ -1,5 +1,5 @@
-ghost use Rattle.std.specs.Prelude.{◌≡◌, ◌+◌, ◌<◌, ◌≤◌, IfOk, length, slice_index, unwrap_or};
-ghost use Rattle.sh_base.specs.Shape.{cell_count};
+ghost use Rattle.std.specs.Prelude.{◌≡◌, ◌+◌, ◌*◌, ◌<◌, ◌≤◌, IfOk, length, slice_index, unwrap_or};
+ghost use Rattle.sh_base.specs.Shape.{cell_count, max_cells};
 ghost use Rattle.sh_grid.specs.Grid.{AreAxesOf, IsGrid};
 ghost use Rattle.sh_tensor.specs.Tensor.{IsTensor, slice_of};
 ghost use Rattle.sh_sharding.specs.Cut.{cut_of};
@@ -8,7 +8,7 @@ ghost use Rattle.sh_sharding.specs.Windows.{after_in, before_in, from_in, padded
 
 use crate::padding::padded;
 use crate::parts::span;
-use crate::views::{dimension, rank};
+use crate::reading::{dimension, rank};
 use crate::{Dimension, Sharding};
 use sh_base::Mem;
 use sh_grid::Grid;
@@ -33,13 +33,13 @@ fn window_of(g: &Grid, d: &Dimension, device: u64) -> Window
     requires axes { AreAxesOf (length g.now.extents) d.now.axes }
     requires admitted { IsDimension g.now.extents d.now }
     requires device { device < cell_count g.now.extents }
-    requires small { d.now.extent ≤ 1048576 }
+    requires small { d.now.extent ≤ max_cells }
     ensures from { result.from ≡ from_in g.now.extents device d.now }
     ensures taken { result.taken ≡ taken_in g.now.extents device d.now }
     ensures before { result.before ≡ before_in g.now.extents device d.now }
     ensures after { result.after ≡ after_in g.now.extents device d.now }
     ensures within { result.from + result.taken ≤ d.now.extent }
-    ensures few { result.before + result.taken + result.after ≤ 3145728 }
+    ensures few { result.before + result.taken + result.after ≤ 3 * max_cells }
 {
     let (start, size) = span(g, d, device);
     let end = start + size + d.high;
@@ -81,7 +81,8 @@ fn sliced_further(
 ) -> Result<Option<Tensor>, Mem>
     requires axis { axis < length (unwrap_or part t.now).shape }
     requires within { start + size ≤ slice_index (unwrap_or part t.now).shape axis }
-    ensures { IfOk result (λ next. unwrap_or next t.now ≡ slice_of (unwrap_or part t.now) axis start size) }
+    ensures { IfOk result (λ next.
+        unwrap_or next t.now ≡ slice_of (unwrap_or part t.now) axis start size) }
 {
     let Some(part) = part else {
         return sliced(alloc, t, axis, start, size);
@@ -98,7 +99,8 @@ fn clipped(alloc: Global, t: &Tensor, s: &Sharding, g: &Grid, device: u64) -> Re
     requires shape { t.now.shape ≡ whole_of s.now }
     requires device { device < cell_count g.now.extents }
     ensures whole { IsTensor t.now }
-    ensures ok { IfOk result (λ part. part ≡ sliced_by g.now.extents device s.now.dimensions t.now (length s.now.dimensions)) }
+    ensures ok { IfOk result (λ part.
+        part ≡ sliced_by g.now.extents device s.now.dimensions t.now (length s.now.dimensions)) }
 {
     let rank = t.shape().extents().len() as u64;
     let mut part = None;

@@ -1,8 +1,8 @@
 ghost use Rattle.std.specs.Prelude.{◌≡◌, ◌↔◌, IsTrue, map};
 ghost use Rattle.sh_sharding.specs.Normal.{IsSame, division_of, up_to_last_split};
 
-use crate::divisions::is_split_dimension;
-use crate::views::{dimensions, grid};
+use crate::offset_lists::is_split_dimension;
+use crate::reading::{dimensions, grid};
 use crate::{Dimension, Mark, Sharding};
 use sh_base::Same;
 
@@ -24,7 +24,7 @@ fn same_mark(a: &Mark, b: &Mark) -> bool
     ensures { IsTrue result ↔ (a.now ≡ b.now) }
 {
     match (a, b) {
-        (Mark::Even, Mark::Even) => true,
+        (Mark::Balanced, Mark::Balanced) => true,
         (Mark::Offsets(left), Mark::Offsets(right)) => left.same(right),
         _ => false,
     }

@@ -1,5 +1,5 @@
 ghost use Rattle.std.specs.Prelude.{◌≡◌, ◌+◌, ◌^◌, ◌<◌, ◌≤◌, IfOk, length, set, slice_index};
-ghost use Rattle.sh_base.specs.Shape.{cell_count};
+ghost use Rattle.sh_base.specs.Shape.{cell_count, max_cells};
 ghost use Rattle.sh_sharding.specs.Windows.{padded_of, undefined_of};
 
 use sh_base::{Cell, Mem, Shape, Width, count};
@@ -8,7 +8,7 @@ use std::alloc::Global;
 
 /// A tensor of undefined cells.
 fn undefined(alloc: Global, shape: Shape, width: Width) -> Result<Tensor, Mem>
-    requires { cell_count shape ≤ 1048576 }
+    requires { cell_count shape ≤ max_cells }
     ensures { IfOk result (λ t. t ≡ undefined_of shape width) }
 {
     let cells = count(&shape).unwrap() as usize;
@@ -25,7 +25,8 @@ pub(crate) fn padded(
 ) -> Result<Tensor, Mem>
     requires axis { axis < length t.shape }
     requires extent { before + slice_index t.shape axis + after < 2 ^ 64 }
-    requires small { cell_count (set t.shape axis (before + slice_index t.shape axis + after)) ≤ 1048576 }
+    requires small { cell_count (set t.shape axis (before + slice_index t.shape axis + after))
+        ≤ max_cells }
     ensures { IfOk result (λ padded. padded ≡ padded_of t axis before after) }
 {
     let extent = t.shape().extents()[axis as usize];

@@ -1,26 +1,13 @@
 ghost use Rattle.std.specs.Prelude.{◌≡◌, ◌+◌, ◌<◌, ◌≤◌, length};
 ghost use Rattle.sh_base.specs.Shape.{cell_count};
 ghost use Rattle.sh_grid.specs.Grid.{AreAxesOf, IsGrid};
-ghost use Rattle.sh_sharding.specs.Sharding.{IsDimension, IsDivided, IsNormalMark, offset_at, parts_of, size_in, size_of, start_in, start_of};
+ghost use Rattle.sh_sharding.specs.Sharding.{IsDimension, size_in, size_of, start_in, start_of};
+ghost use Rattle.sh_sharding.specs.declared.shardings.Mark.TheVariants.{Balanced};
 
-use crate::views::dimension;
-use crate::{Dimension, Mark, Sharding};
-use sh_grid::{Grid, group_size, place_in_group};
-
-/// Where a part of a dimension begins. The part after the last begins at the extent.
-pub(crate) fn offset(g: &Grid, d: &Dimension, part: u64) -> u64
-    requires axes { AreAxesOf (length g.now.extents) d.now.axes }
-    requires divided { IsDivided d.now.extent (parts_of g.now.extents d.now) d.now.mark }
-    requires normal { IsNormalMark d.now.extent (parts_of g.now.extents d.now) d.now.mark }
-    requires part { part ≤ parts_of g.now.extents d.now }
-    ensures value { result ≡ offset_at g.now.extents d.now part }
-    ensures within { result ≤ d.now.extent }
-{
-    match &d.mark {
-        Mark::Even => part * (d.extent / group_size(g, &d.axes)),
-        Mark::Offsets(offsets) => offsets.as_slice()[part as usize],
-    }
-}
+use crate::offsets::{Division, division_of, offset, part_size};
+use crate::reading::dimension;
+use crate::{Dimension, Sharding};
+use sh_grid::{Grid, place_in_group};
 
 /// Where the part of a device begins along a dimension, and how long it is.
 pub(crate) fn span(g: &Grid, d: &Dimension, device: u64) -> (u64, u64)
@@ -34,9 +21,12 @@ pub(crate) fn span(g: &Grid, d: &Dimension, device: u64) -> (u64, u64)
     ensures low { d.now.low ≤ result.1 }
     ensures high { d.now.high ≤ result.1 }
 {
+    let Division { parts, mark } = division_of(g, d);
     let part = place_in_group(g, &d.axes, device);
-    let start = offset(g, d, part);
-    (start, offset(g, d, part + 1) - start)
+    (
+        offset(d.extent, parts, mark, part),
+        part_size(d.extent, parts, mark, part),
+    )
 }
 
 /// Where a device's part begins along a dimension, without halos.

@@ -1,10 +1,10 @@
 ghost use Rattle.std.specs.Prelude.{◌≡◌, ◌++◌, ◌*◌, ◌+◌, ◌<◌, ◌≤◌, All, IfOk, OnOk, length, map};
-ghost use Rattle.sh_base.specs.Shape.{cell_count};
+ghost use Rattle.sh_base.specs.Shape.{cell_count, max_cells};
 ghost use Rattle.sh_sharding.specs.Positions.{AreExtended, ArePositions, AreWritten, IsInside, IsLeastDiffering, IsSmall, moved};
 
 use crate::Sharding;
 use crate::parts::span;
-use crate::views::{dimension, rank};
+use crate::reading::{dimension, rank};
 use sh_base::{Cell, Mem, Same};
 use sh_grid::Grid;
 use std::alloc::Global;
@@ -40,10 +40,10 @@ fn extended(
     size: u64,
 ) -> Result<Vec<Position>, Mem>
     requires small { All IsSmall positions.now }
-    requires whole { from.whole + size ≤ 1048576 }
-    requires local { from.local + size ≤ 4194304 }
-    requires whole_few { (from.whole + size) * stride.whole ≤ 1048576 }
-    requires local_few { (from.local + size) * stride.local ≤ 1048576 }
+    requires whole { from.whole + size ≤ max_cells }
+    requires local { from.local + size ≤ 4 * max_cells }
+    requires whole_few { (from.whole + size) * stride.whole ≤ max_cells }
+    requires local_few { (from.local + size) * stride.local ≤ max_cells }
     ensures { IfOk result (λ out. AreExtended positions.now stride from size out.items) }
 {
     let mut out = Vec::new(alloc);
@@ -66,7 +66,8 @@ pub(crate) fn own_positions(
 ) -> Result<Vec<Position>, Mem>
     requires grid { s.now.grid ≡ g.now }
     requires device { device < cell_count g.now.extents }
-    ensures { IfOk result (λ positions. ArePositions s.now.grid.extents device s.now.dimensions positions.items) }
+    ensures { IfOk result (λ positions.
+        ArePositions s.now.grid.extents device s.now.dimensions positions.items) }
 {
     let rank = rank(s);
     let mut positions = Vec::from_array(alloc, [Position { whole: 0, local: 0 }])?;
@@ -100,7 +101,7 @@ pub(crate) fn write_own(cells: &mut Vec<Cell>, part: &[Cell], positions: &[Posit
 /// The least number of a cell where a part differs from what stands there, or how many cells there are
 /// where it doesn't.
 pub(crate) fn least_differing(cells: &[Cell], part: &[Cell], positions: &[Position]) -> u64
-    requires few { length cells.now ≤ 1048576 }
+    requires few { length cells.now ≤ max_cells }
     requires inside { All (IsInside (length cells.now) (length part.now)) positions.now }
     ensures { IsLeastDiffering positions.now part.now cells.now result }
 {

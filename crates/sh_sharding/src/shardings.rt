@@ -5,8 +5,8 @@ use std::marker::Model;
 /// Where the parts of a dimension begin.
 #[derive(Debug, Drop)]
 pub enum Mark {
-    /// All parts have one size.
-    Even,
+    /// Each part has the extent over the number of parts, rounded up, as long as the extent lasts.
+    Balanced,
     /// At these offsets: the start of each part, then the extent.
     Offsets(Items<u64>),
 }
@@ -27,12 +27,15 @@ pub struct Dimension {
     pub high: u64,
 }
 
+/// The dimensions of a tensor.
+pub type Dimensions = Items<Dimension>;
+
 /// An admitted sharding of a tensor on a grid, in normal form, with its whole shape.
 #[derive(Debug, Drop)]
 pub struct Sharding {
     pub(crate) grid: Grid,
     pub(crate) whole: Shape,
-    pub(crate) dimensions: Vec<Dimension>,
+    pub(crate) dimensions: Dimensions,
 }
 
 impl Model for Sharding {
@@ -40,7 +43,7 @@ impl Model for Sharding {
 
     ghost Value = { ShardingValue };
 
-    ghost view = { λ s. record { grid = s.grid; dimensions = s.dimensions.items } };
+    ghost view = { λ s. record { grid = s.grid; dimensions = s.dimensions } };
 
-    ghost invariant = { λ s. IsHeld s.whole (record { grid = s.grid; dimensions = s.dimensions.items }) };
+    ghost invariant = { λ s. IsHeld s.whole (record { grid = s.grid; dimensions = s.dimensions }) };
 }

@@ -2,15 +2,15 @@ ghost use Rattle.std.specs.Prelude.{◌≡◌, ◌++◌, All, IfOk, OnOk, map, p
 ghost use Rattle.std.specs.List.{list_any};
 ghost use Rattle.sh_sharding.specs.Admission.{IsAdmitted, sharding_of};
 ghost use Rattle.sh_sharding.specs.Sharding.{IsMarked, whole_of};
-ghost use Rattle.sh_sharding.specs.Spelling.{all_offsets_of, halo_sizes, halos_of, has_halo, is_uneven, part_offsets, raw_of, written_dimensions};
+ghost use Rattle.sh_sharding.specs.Spelling.{all_offsets_of, halo_sizes, halos_of, has_halo, is_unbalanced, part_offsets, raw_of, written_dimensions};
 
-use crate::divisions::is_split_dimension;
 use crate::normal::up_to_last_split;
-use crate::parts::offset;
-use crate::views::{dimensions, grid};
-use crate::{Dimension, Mark, Sharding, whole};
+use crate::offset_lists::{is_balanced_mark, is_split_dimension};
+use crate::offsets::{Division, division_of, offset};
+use crate::reading::{dimensions, grid};
+use crate::{Dimension, Sharding, whole};
 use sh_base::{AxisLists, Duplicate, Items, Mem, Numbers};
-use sh_grid::{Grid, group_size, name};
+use sh_grid::{Grid, name};
 use sh_ir::RawSharding;
 use std::alloc::Global;
 
@@ -84,21 +84,18 @@ fn all_halo_sizes(alloc: Global, dimensions: &[Dimension]) -> Result<Numbers, Me
     Ok(halos)
 }
 
-/// Whether a dimension isn't divided evenly.
-fn is_uneven(d: &Dimension) -> bool
-    ensures { result ≡ is_uneven d.now }
+/// Whether the normal form has offsets for a dimension.
+fn is_unbalanced(d: &Dimension) -> bool
+    ensures { result ≡ is_unbalanced d.now }
 {
-    match &d.mark {
-        Mark::Even => false,
-        Mark::Offsets(_) => true,
-    }
+    !is_balanced_mark(&d.mark)
 }
 
-/// Whether some dimension isn't divided evenly.
-fn is_any_uneven(dimensions: &[Dimension]) -> bool
-    ensures { result ≡ list_any is_uneven dimensions.now }
+/// Whether the normal form has offsets for some dimension.
+fn is_any_unbalanced(dimensions: &[Dimension]) -> bool
+    ensures { result ≡ list_any is_unbalanced dimensions.now }
 {
-    dimensions.iter().any(is_uneven)
+    dimensions.iter().any(is_unbalanced)
 }
 
 /// Appends the offsets of a dimension, if it is split.
@@ -109,19 +106,20 @@ fn push_offsets(offsets: &mut Numbers, g: &Grid, d: &Dimension) -> Result<(), Me
     if !is_split_dimension(d) {
         return Ok(());
     }
-    for part in 0..group_size(g, &d.axes) + 1 {
-        offsets.push(i128::from(offset(g, d, part)))?;
+    let Division { parts, mark } = division_of(g, d);
+    for part in 0..parts + 1 {
+        offsets.push(i128::from(offset(d.extent, parts, mark, part)))?;
     }
     Ok(())
 }
 
-/// The offsets of all dimensions, or none where each is divided evenly.
+/// The offsets of all dimensions, or none where each is balanced.
 fn all_offsets(alloc: Global, g: &Grid, dimensions: &[Dimension]) -> Result<Numbers, Mem>
     requires { All (IsMarked g.now.extents) dimensions.now }
     ensures { IfOk result (λ offsets. offsets ≡ all_offsets_of g.now.extents dimensions.now) }
 {
     let mut offsets = Items::new(alloc);
-    if !is_any_uneven(dimensions) {
+    if !is_any_unbalanced(dimensions) {
         return Ok(offsets);
     }
     for dimension in dimensions {
@@ -140,7 +138,7 @@ fn spelling_laws(s: &Sharding)
 
 /// The sharding as a text writes it, in normal form: lists of axes up to the last dimension that is split,
 /// or one empty list where none is; halo sizes where some dimension has a halo, and offsets where some
-/// dimension isn't divided evenly, then of each dimension that is split. For a tensor of the same shape
+/// dimension isn't balanced, then of each dimension that is split. For a tensor of the same shape
 /// it is admitted, and stands for this sharding.
 ///
 /// Errors: `Mem` where memory is wanting.

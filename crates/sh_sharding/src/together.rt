@@ -1,5 +1,5 @@
 ghost use Rattle.std.specs.Prelude.{◌≡◌, ℕ, ◌<◌, ◌≤◌, IfErr, IfOk, OnOk, length};
-ghost use Rattle.sh_base.specs.Shape.{cell_count};
+ghost use Rattle.sh_base.specs.Shape.{cell_count, max_cells};
 ghost use Rattle.sh_tensor.specs.Tensor.{TensorValue};
 ghost use Rattle.sh_sharding.specs.declared.together.Put.TheVariants.{Mem as WantOfMemory};
 ghost use Rattle.sh_sharding.specs.Positions.{AreHeld, IsStanding};
@@ -36,7 +36,7 @@ impl From<Mem> for Put {
 /// How many cells the whole tensor has.
 fn total_cells(s: &Sharding) -> u64
     ensures value { result ≡ cell_count (whole_of s.now) }
-    ensures few { result ≤ 1048576 }
+    ensures few { result ≤ max_cells }
 {
     count(whole(s)).unwrap()
 }
@@ -116,7 +116,8 @@ pub fn put_together(
     requires parts { AreParts s.now parts.now.items }
     ensures ok { IfOk result (λ t. IsTogether s.now parts.now.items t) }
     ensures refused { IfErr result (λ refusal. IsPutRefusal refusal s.now parts.now.items) }
-    ensures again { (t : TensorValue) → AreCutsOf s.now t parts.now.items → IfOk result (λ u. u ≡ t) × IfErr result (λ refusal. refusal ≡ WantOfMemory) }
+    ensures again { (t : TensorValue) → AreCutsOf s.now t parts.now.items
+        → IfOk result (λ u. u ≡ t) × IfErr result (λ refusal. refusal ≡ WantOfMemory) }
 {
     let parts = parts.as_slice();
     let cells = standing(alloc, parts, s, g)?;

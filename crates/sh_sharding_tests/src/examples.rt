@@ -1,8 +1,9 @@
 ghost use Rattle.std.specs.Prelude.{◌≡◌, ◌≤◌, IfOk, IsTrue};
+ghost use Rattle.sh_base.specs.Shape.{max_cells};
 ghost use Rattle.sh_sharding.specs.Sharding.{counted_cells};
 
 use crate::Unread;
-use sh_base::{AxisLists, Items, Numbers, Shape, count, shape};
+use sh_base::{AxisLists, Items, MAX_RANK, Numbers, Shape, count, shape};
 use sh_grid::{Grid, make};
 use sh_ir::RawSharding;
 use sh_ir_tests::text;
@@ -34,7 +35,7 @@ fn extents(alloc: Global, line: &str) -> Result<Shape, Unread> {
     for word in line.split_whitespace() {
         found.push(word.parse::<u64>().ok().ok_or(Unread::Text("no extent"))?)?;
     }
-    if found.len() > 6 {
+    if found.len() > MAX_RANK {
         return Err(Unread::Text("more than six extents"));
     }
     Ok(shape(alloc, found.as_slice()))
@@ -54,7 +55,7 @@ fn lists(alloc: Global, line: &str) -> Result<AxisLists, Unread> {
 
 /// Whether a shape has at most 1,048,576 cells, an extent of 0 being counted as 1.
 fn is_small(alloc: Global, s: &Shape) -> Result<bool, Unread>
-    ensures { IfOk result (λ small. IsTrue small → counted_cells s.now ≤ 1048576) }
+    ensures { IfOk result (λ small. IsTrue small → counted_cells s.now ≤ max_cells) }
 {
     let mut counted = Vec::new(alloc);
     for extent in s.extents() {
@@ -67,7 +68,7 @@ fn is_small(alloc: Global, s: &Shape) -> Result<bool, Unread>
 /// offsets, with a bar between each two.
 pub fn read_example(alloc: Global, line: &str) -> Result<Example, Unread>
     ensures named { IfOk result (λ example. example.written.grid ≡ example.grid.name) }
-    ensures small { IfOk result (λ example. counted_cells example.shape ≤ 1048576) }
+    ensures small { IfOk result (λ example. counted_cells example.shape ≤ max_cells) }
 {
     let (grid, rest) = line.split_once('|').ok_or(Unread::Text("no shape"))?;
     let (whole, rest) = rest.split_once('|').ok_or(Unread::Text("no lists"))?;

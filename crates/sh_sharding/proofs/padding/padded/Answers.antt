@@ -1,3 +1,4 @@
+use Rattle.sh_base.specs.Shape.{max_cells}
 use Rattle.std.proofs.Common.{◌≡◌, ◌+◌, set, get_or, arith, ◌∙◌, ap, ap₂}
 use Rattle.sh_sharding.specs.Windows.{undefined_of}
 use Rattle.sh_sharding.proofs.WindowLaws.{padded_of-none, pad_join, fewer_cells}
@@ -12,12 +13,12 @@ returns-then-before-extent c =
 pub undefined-requires : goal.undefined-requires
 undefined-requires c =
     rw (c.with_extent.ensures, c.shape-2.ensures.value)
-    (fewer_cells c.args.t.shape c.args.axis c.args.before (c.args.before + get_or c.args.t.shape c.args.axis 0 + c.args.after) 1048576 c.requires.axis (omega arith) c.requires.small)
+    (fewer_cells c.args.t.shape c.args.axis c.args.before (c.args.before + get_or c.args.t.shape c.args.axis 0 + c.args.after) max_cells c.requires.axis (omega arith) c.requires.small)
 
 pub undefined-requires-2 : goal.undefined-requires-2
 undefined-requires-2 c =
     rw (c.with_extent-2.ensures, c.shape-3.ensures.value)
-    (fewer_cells c.args.t.shape c.args.axis c.args.after (c.args.before + get_or c.args.t.shape c.args.axis 0 + c.args.after) 1048576 c.requires.axis (omega arith) c.requires.small)
+    (fewer_cells c.args.t.shape c.args.axis c.args.after (c.args.before + get_or c.args.t.shape c.args.axis 0 + c.args.after) max_cells c.requires.axis (omega arith) c.requires.small)
 
 pub concat-requires-clause-alike : goal.concat-requires-clause-alike
 concat-requires-clause-alike c =
