@@ -56,7 +56,7 @@ also_begun between text other extent devices e b = subst (λ (t : List ℕ). IsB
 
 pub begun : (text : List ℕ) (extent devices : ℕ) → IsVectorSum text extent devices → IsBegun before_extent text extent devices
 begun text extent devices is =
-    also_begun before_extent text (source_text extent devices) extent devices is.is_text (source_begun extent devices (omega (arith, is.few_cells)) (omega (arith, is.few_devices)))
+    also_begun before_extent text (source_text extent devices) extent devices is.is_text (source_begun extent devices (omega (arith, is.limits.few_cells)) (omega (arith, is.limits.few_devices)))
 
 -- ---- device form
 

@@ -78,6 +78,10 @@ elementwise_made : (op : BinOp) (t u : TensorValue) → have_one_shape t u ≡ t
 unfolding elementwise
 elementwise_made op t u shapes calm = rw (shapes, calm) refl
 
+-- the result has the width of the operands
+pub width-elementwise : (op : BinOp) (t u r : TensorValue) → elementwise op t u ≡ Some r → r.width ≡ t.width
+width-elementwise op t u r e = ap (λ (v : TensorValue). v.width) (elementwise_parts op t u r e).is
+
 -- ---- cuts
 
 -- what a cut without halos holds at a local index, and where that stands in the whole

@@ -10,24 +10,29 @@ use Rattle.sh_base.specs.declared.numbers.Width.{Width}
 use Rattle.sh_base.specs.declared.numbers.Width.TheVariants.{I32}
 use Rattle.sh_base.specs.Shape.{cell_count, flat_of}
 use Rattle.sh_ir.specs.declared.functions.Carry.{Carry}
-use Rattle.sh_ir.specs.declared.modules.GridItem.{GridItem}
 use Rattle.sh_ir.specs.declared.operations.OpKind.TheVariants.{Binary}
 use Rattle.sh_ir.specs.declared.types.Dim.TheVariants.{Known}
 use Rattle.sh_base.specs.declared.operations.BinOp.TheVariants.{Addi}
 use Rattle.sh_ir.specs.declared.functions.Func.{Func}
+use Rattle.sh_ir.specs.Shapes.{argument_types, shape_of}
+use Rattle.sh_ir.specs.declared.types.ValueType.{ValueType}
 use Rattle.sh_tensor.specs.Tensor.{TensorValue, at, cells_of}
-use Rattle.sh_grid.specs.Grid.{place_in, group_size_of, on_axes}
+use Rattle.sh_grid.specs.Grid.{GridValue, place_in, group_size_of, on_axes}
 use Rattle.sh_int.specs.Elements.{element_of}
+use Rattle.sh_sharding.specs.Carried.{cuts_of, grid_named}
 use Rattle.sh_sharding.specs.Admission.{mark_of, offset_count, halo_count}
 use Rattle.sh_sharding.specs.Cut.{cut_of}
-use Rattle.sh_sharding.specs.Sharding.{offset_of, parts_of, part_of, offset_at, part_size, start_in, size_in, local_extent, offsets_of}
+use Rattle.sh_sharding.specs.Sharding.{offset_of, parts_of, part_of, offset_at, part_size, size_of_part, start_in, size_in, local_extent, offsets_of}
+use Rattle.sh_sharding.specs.LocalTypes.{part_sizes, local_dim}
 use Rattle.sh_sem.specs.Elementwise.{elementwise, is_stuck_somewhere}
 use Rattle.sh_sem.specs.Meaning.{means, value_of}
 use Rattle.sh_sem.specs.Device.{device_program, local_value, is_collective_at, places_returned}
+use Rattle.sh_sem.specs.Types.{AreOfTypes, IsOfType}
 use Rattle.sh_turns.specs.Program.{Program, returned, turns}
 use Rattle.sh_turns.specs.World.{start, run, finished}
-use Rattle.sh_cli.specs.Headline.{AreOfTypes, IsOfType, IsPartition, IsPartitioned, RunsRight, argument_types, cuts_of}
-use Rattle.sh_cli.specs.Modules.{carry_of, defining, device_func, line_of_devices, module_of, place_at, returning, source_func, vector}
+use Rattle.sh_pieces.specs.Right.{RunsRight}
+use Rattle.sh_cli.specs.Headline.{IsPartition, IsPartitioned}
+use Rattle.sh_cli.specs.Modules.{argument, carry_of, defining, device_func, line_of_devices, module_of, place_at, returning, source_func, vector}
 use Rattle.sh_cli.proofs.LineSharding.{line}
 use Rattle.sh_cli.proofs.SumHeadline.{only_one, the_one, sum_is_partitioned}
 
@@ -58,11 +63,11 @@ ends_with_halves schedule =
     × (map (λ d. returned (on_two_devices (device_func 4 2) (left ∷ right ∷ [])) d.values) w ≡ (of_numbers (2147483648 ∷ 2 ∷ []) ∷ []) ∷ (of_numbers (3 ∷ 4 ∷ []) ∷ []) ∷ []))
 
 first_device_first : ends_with_halves (0 ∷ 1 ∷ [])
-unfolding local_value is_collective_at places_returned value_of elementwise is_stuck_somewhere element_of at cells_of cut_of start_in size_in local_extent part_size part_of offset_at offset_of parts_of place_in group_size_of on_axes mark_of offset_count halo_count offsets_of
+unfolding local_value is_collective_at places_returned value_of elementwise is_stuck_somewhere element_of at cells_of cut_of start_in size_in local_extent part_size size_of_part part_of offset_at offset_of parts_of place_in group_size_of on_axes mark_of offset_count halo_count offsets_of
 first_device_first = (refl, refl)
 
 last_device_first : ends_with_halves (1 ∷ 0 ∷ [])
-unfolding local_value is_collective_at places_returned value_of elementwise is_stuck_somewhere element_of at cells_of cut_of start_in size_in local_extent part_size part_of offset_at offset_of parts_of place_in group_size_of on_axes mark_of offset_count halo_count offsets_of
+unfolding local_value is_collective_at places_returned value_of elementwise is_stuck_somewhere element_of at cells_of cut_of start_in size_in local_extent part_size size_of_part part_of offset_at offset_of parts_of place_in group_size_of on_axes mark_of offset_count halo_count offsets_of
 last_device_first = (refl, refl)
 
 two_turns : turns (on_two_devices (device_func 4 2) (left ∷ right ∷ [])) ≡ 2
@@ -102,20 +107,20 @@ are_vectors : AreOfTypes (argument_types (source_func 4)) (left ∷ right ∷ []
 are_vectors = (is_vector left refl refl refl left_fits, (is_vector right refl refl refl right_fits, tt))
 
 -- what the statement of the headline says of a module with one function, where that carries the right cuts
-is_partition : (g : Func) → g.carry ≡ Some (carry_of 4) → IsPartitioned (module_of 2 (source_func 4)) (module_of 2 g) → IsPartition (source_func 4) g (carry_of 4) (line_of_devices 2)
-is_partition g carries holds =
-    let got = holds (source_func 4) (the_one (source_func 4)) refl in
-    let same_func = only_one g got.0 got.3 in
-    let same_grid = only_one (line_of_devices 2) got.2 got.4 in
-    let same_carry : got.1 ≡ carry_of 4 = same_Some _ _ (sym got.5.carries ∙ ap (λ (f : Func). f.carry) same_func ∙ carries) in
-    subst (λ (c : Carry). IsPartition (source_func 4) g c (line_of_devices 2)) same_carry
-    (subst (λ (i : GridItem). IsPartition (source_func 4) g got.1 i) same_grid
-    (subst (λ (f : Func). IsPartition (source_func 4) f got.1 got.2) same_func got.5))
+is_partition : (f : Func) → f.carry ≡ Some (carry_of 4) → IsPartitioned (module_of 2 (source_func 4)) (module_of 2 f) → IsPartition (source_func 4) f (carry_of 4) (line 2)
+is_partition f carries holds =
+    let got = holds.functions (source_func 4) (the_one (source_func 4)) refl in
+    let same_func = only_one f got.function got.among in
+    let same_carry : got.carry ≡ carry_of 4 = same_Some _ _ (sym got.is_partition.carries ∙ ap (λ (f : Func). f.carry) same_func ∙ carries) in
+    let same_grid : got.grid ≡ line 2 = same_Some _ _ (sym (sym (ap (λ (c : Carry). grid_named (line_of_devices 2 ∷ []) c.grid) same_carry) ∙ got.on_grid)) in
+    subst (λ (c : Carry). IsPartition (source_func 4) f c (line 2)) same_carry
+    (subst (λ (g : GridValue). IsPartition (source_func 4) f got.carry g) same_grid
+    (subst (λ (h : Func). IsPartition (source_func 4) h got.carry got.grid) same_func got.is_partition))
 
 -- every run of such a function, on the cuts of the example's arguments, would be right
-would_run : (g : Func) → g.carry ≡ Some (carry_of 4) → IsPartitioned (module_of 2 (source_func 4)) (module_of 2 g)
-    → RunsRight (on_two_devices g (left ∷ right ∷ [])) (cuts_of (line 2) (carry_of 4).results (of_numbers (2147483648 ∷ 2 ∷ 3 ∷ 4 ∷ []) ∷ []))
-would_run g carries holds = (is_partition g carries holds).runs (left ∷ right ∷ []) (of_numbers (2147483648 ∷ 2 ∷ 3 ∷ 4 ∷ []) ∷ []) are_vectors sum_is
+would_run : (f : Func) → f.carry ≡ Some (carry_of 4) → IsPartitioned (module_of 2 (source_func 4)) (module_of 2 f)
+    → RunsRight (on_two_devices f (left ∷ right ∷ [])) (cuts_of (line 2) (carry_of 4).results (of_numbers (2147483648 ∷ 2 ∷ 3 ∷ 4 ∷ []) ∷ []))
+would_run f carries holds = (is_partition f carries holds).runs (left ∷ right ∷ []) (of_numbers (2147483648 ∷ 2 ∷ 3 ∷ 4 ∷ []) ∷ []) are_vectors sum_is
 
 abbrev number_in : Cell → ℕ
 number_in Undef = 0
@@ -130,19 +135,52 @@ two_numbers a b is_a is_b e = absurd (omega arith)
 
 -- the headline is false of the module that adds the first argument twice: device 0 ends with another first number
 twice_is_wrong : IsPartitioned (module_of 2 (source_func 4)) (module_of 2 twice_func) → ⊥
-unfolding local_value is_collective_at places_returned value_of elementwise is_stuck_somewhere element_of at cells_of cut_of start_in size_in local_extent part_size part_of offset_at offset_of parts_of place_in group_size_of on_axes mark_of offset_count halo_count offsets_of
+unfolding local_value is_collective_at places_returned value_of elementwise is_stuck_somewhere element_of at cells_of cut_of start_in size_in local_extent part_size size_of_part part_of offset_at offset_of parts_of place_in group_size_of on_axes mark_of offset_count halo_count offsets_of
 twice_is_wrong holds =
     let ran = would_run twice_func refl holds (0 ∷ 1 ∷ []) _ refl in
     two_numbers _ _ refl refl (ap first_number (ran.results refl 0 (omega arith)))
 
 -- it is false of the module with a wrong local type: the first turn is stuck
 undivided_is_wrong : IsPartitioned (module_of 2 (source_func 4)) (module_of 2 undivided_func) → ⊥
-unfolding local_value is_collective_at places_returned value_of elementwise is_stuck_somewhere element_of at cells_of cut_of start_in size_in local_extent part_size part_of offset_at offset_of parts_of place_in group_size_of on_axes mark_of offset_count halo_count offsets_of
+unfolding local_value is_collective_at places_returned value_of elementwise is_stuck_somewhere element_of at cells_of cut_of start_in size_in local_extent part_size size_of_part part_of offset_at offset_of parts_of place_in group_size_of on_axes mark_of offset_count halo_count offsets_of
 undivided_is_wrong holds =
     let ran = would_run undivided_func refl holds [] _ refl in
     let moves : false ≡ true = ran.no_fault 0 refl in
     cc moves
 
+-- It is false of a module whose function has other types than its cuts, though it runs right: here each
+-- argument is written as a vector of three.
+abbrev mistyped_func : Func
+mistyped_func = record (device_func 4 2) { args = argument 0 3 ∷ argument 1 3 ∷ [] }
+
+abbrev first_extent : List ValueType → ℕ
+first_extent [] = 0
+first_extent (type ∷ types) = get_or (shape_of type) 0 0
+
+three_or_two : (a b : ℕ) → a ≡ 3 → b ≡ 2 → a ≡ b → ⊥
+three_or_two a b is_a is_b e = absurd (omega arith)
+
+mistyped_is_wrong : IsPartitioned (module_of 2 (source_func 4)) (module_of 2 mistyped_func) → ⊥
+unfolding local_value is_collective_at places_returned value_of elementwise is_stuck_somewhere element_of at cells_of cut_of start_in size_in local_extent part_size size_of_part part_of offset_at offset_of parts_of place_in group_size_of on_axes mark_of offset_count halo_count offsets_of part_sizes local_dim
+mistyped_is_wrong holds =
+    three_or_two _ _ refl refl (ap first_extent (is_partition mistyped_func refl holds).local.of_arguments)
+
+-- nor where what is returned is written as a vector of three
+abbrev misreturned_func : Func
+misreturned_func = record (device_func 4 2) { ops = defining 2 (Binary Addi) (0 ∷ 1 ∷ []) (vector 2) (place_at 5 5) ∷ returning 2 3 (place_at 6 5) ∷ [] }
+
+misreturned_is_wrong : IsPartitioned (module_of 2 (source_func 4)) (module_of 2 misreturned_func) → ⊥
+misreturned_is_wrong holds =
+    three_or_two _ _ refl refl (ap first_extent (is_partition misreturned_func refl holds).local.of_return)
+
+-- nor of the right function on another grid than the source module's
+on_three_is_wrong : IsPartitioned (module_of 2 (source_func 4)) (module_of 3 (device_func 4 2)) → ⊥
+on_three_is_wrong holds =
+    three_or_two _ _ refl refl (ap (λ (grids : List GridValue). get_or (get_or grids 0 (line 0)).extents 0 0) holds.grids)
+
 -- it is true of the right one
 right_is_right : IsPartitioned (module_of 2 (source_func 4)) (module_of 2 (device_func 4 2))
-right_is_right = sum_is_partitioned 4 2 (record { some_cells = omega arith; few_cells = omega arith; some_devices = omega arith; few_devices = omega arith; divisible = refl })
+right_is_right = sum_is_partitioned 4 2 (record {
+  limits = record { some_cells = omega arith; few_cells = omega arith; some_devices = omega arith; few_devices = omega arith };
+  divisible = refl;
+})

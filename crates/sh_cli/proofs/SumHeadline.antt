@@ -1,35 +1,41 @@
 -- The device function of the one form runs as its source function means, in every order of turns.
-use Rattle.std.proofs.Common.{◌≡◌, ℕ, zero, suc, ◌*◌, ◌/◌, ◌^◌, ◌<◌, true, List, [], ◌∷◌, Option, Some, None, refl, ap, sym, ◌∙◌, subst, arith, map}
+use Rattle.std.proofs.Common.{ap₂, ◌≡◌, ℕ, zero, suc, ◌*◌, ◌/◌, ◌^◌, ◌<◌, true, ◌&&◌, List, [], ◌∷◌, Option, Some, None, refl, ap, sym, ◌∙◌, subst, arith, map}
 use Rattle.std.proofs.lemmas.Bool.Decides.{nat_tests}
 use Rattle.std.specs.List.{range_with_len}
 use Rattle.std.specs.Prelude.{Contains}
 use Rattle.sh_base.specs.declared.operations.BinOp.TheVariants.{Addi}
+use Rattle.sh_base.specs.declared.numbers.Width.TheVariants.{I32}
 use Rattle.sh_ir.specs.declared.functions.Func.{Func}
 use Rattle.sh_ir.specs.declared.modules.Module.{Module}
 use Rattle.sh_ir.specs.declared.types.Dim.TheVariants.{Known}
+use Rattle.sh_ir.specs.declared.types.ValueType.{ValueType}
+use Rattle.sh_ir.specs.Shapes.{argument_types}
 use Rattle.sh_tensor.specs.Tensor.{TensorValue}
-use Rattle.sh_sharding.specs.Admission.{sharding_of}
+use Rattle.sh_sharding.specs.Carried.{carried, cuts_of, local_type}
 use Rattle.sh_sharding.specs.Cut.{cut_of}
 use Rattle.sh_sharding.specs.Sharding.{ShardingValue, local_shape}
-use Rattle.sh_sharding.proofs.CutLaws.{shape-cut_of}
+use Rattle.sh_sharding.proofs.CutLaws.{shape-cut_of, width-cut_of}
 use Rattle.sh_sem.specs.Elementwise.{elementwise}
 use Rattle.sh_sem.specs.Meaning.{means}
-use Rattle.sh_sem.specs.Device.{checked, device_program, has_type, have_extents}
+use Rattle.sh_sem.specs.Device.{checked, device_program}
+use Rattle.sh_sem.specs.Types.{AreOfTypes, has_type, have_extents, same_width}
 use Rattle.sh_turns.specs.Lockstep.{Done, lockstep}
 use Rattle.sh_turns.specs.Program.{Program}
-use Rattle.sh_cli.specs.Headline.{AreOfTypes, argument_types, shape_of, cuts_of, RunsRight, IsPartition, IsPartitioned, IsRewritten, Rewrites, StepsToSum}
-use Rattle.sh_cli.specs.Modules.{by_axis_0, line_of_devices, vector, source_func, device_func, module_of, carry_of, in_source_form, in_device_form}
+use Rattle.sh_pieces.specs.Right.{RunsRight}
+use Rattle.sh_cli.specs.Headline.{HasLocalTypes, IsPartition, IsPartitioned, IsRewritten, Rewrites}
+use Rattle.sh_cli.specs.InStep.{StepsToSum, ends_in_step, result_cuts}
+use Rattle.sh_cli.specs.Modules.{vector, whole_cut, source_func, device_func, module_of, carry_of, in_source_form, in_device_form}
 use Rattle.sh_cli.specs.VectorSum.{source_text, partitioned_text, IsVectorSum, IsDivisible, IsEvenlySplit}
 use Rattle.std.specs.Io.KnownBytes.{Appends}
 use Rattle.sh_cli.proofs.Begins.{one_rest}
 use Rattle.sh_cli.proofs.Readings.{reads_source, reads_partitioned}
-use Rattle.sh_cli.proofs.ElementwiseCut.{cut_elementwise, sum_is_there}
-use Rattle.sh_cli.proofs.LineSharding.{line, part_fits, line_sharding, is_line_sharding, local_shape_is, line_is_grid, line_is_sharding, line_is_admitted, no_halos}
+use Rattle.sh_cli.proofs.ElementwiseCut.{cut_elementwise, sum_is_there, width-elementwise}
+use Rattle.sh_cli.proofs.LineSharding.{line, part_fits, line_sharding, local_type_is, is_line_sharding, local_shape_is, line_is_grid, line_is_sharding, line_is_admitted, no_halos}
 use Rattle.sh_cli.proofs.SumMeaning.{source_means, sum_of, steps_to_sums, sum_program, runs_right}
 
--- the sharding that a cut carries
-abbrev carried : ℕ → ℕ → ShardingValue
-carried extent devices = sharding_of (line devices) by_axis_0 (shape_of (vector extent))
+-- the sharding of each cut
+abbrev by_cut : ℕ → ℕ → ShardingValue
+by_cut extent devices = carried (line devices) (whole_cut extent)
 
 -- a tensor of a vector's type has its shape
 vector_shape : (extent : ℕ) (t : TensorValue) → AreOfTypes (vector extent ∷ []) (t ∷ []) → t.shape ≡ extent ∷ []
@@ -41,35 +47,38 @@ vector_shape extent t is = go t.shape is.0.extents
     go (n ∷ m ∷ ns) e = absurd (cc)
 
 -- a device's part has the local type
-part_has_type : (extent devices : ℕ) (t : TensorValue) (device : ℕ) → has_type (vector (extent / devices)) (cut_of (carried extent devices) t device) ≡ true
-part_has_type extent devices t device =
-    let shape : (cut_of (carried extent devices) t device).shape ≡ (extent / devices) ∷ [] =
-    shape-cut_of (carried extent devices) t device
+part_has_type : (extent devices : ℕ) (t : TensorValue) (device : ℕ) → IsEvenlySplit extent devices → device < devices * 1 → t.width ≡ I32
+    → has_type (vector (extent / devices)) (cut_of (by_cut extent devices) t device) ≡ true
+part_has_type extent devices t device is below width =
+    let shape : (cut_of (by_cut extent devices) t device).shape ≡ (extent / devices) ∷ [] =
+    shape-cut_of (by_cut extent devices) t device
     ∙ ap (λ s. local_shape s device) (is_line_sharding extent devices)
-    ∙ local_shape_is extent devices device in
-    ap (λ dims. have_extents (Known (extent / devices) ∷ []) dims) shape ∙ same_extents (extent / devices)
+    ∙ local_shape_is extent devices device is below in
+    ap₂ (λ w dims. same_width I32 w && have_extents (Known (extent / devices) ∷ []) dims) (width-cut_of (by_cut extent devices) t device ∙ width) shape
+    ∙ same_extents (extent / devices)
   where
     same_extents : (n : ℕ) → have_extents (Known n ∷ []) (n ∷ []) ≡ true
     same_extents n = grind (arith, nat_tests)
 
 -- the sum of the parts is the part of the sum
-part_sum : (extent devices : ℕ) (x y r : TensorValue) (device : ℕ) → IsEvenlySplit extent devices → x.shape ≡ extent ∷ [] → elementwise Addi x y ≡ Some r → device < devices * 1
-    → checked (vector (extent / devices)) (elementwise Addi (cut_of (carried extent devices) x device) (cut_of (carried extent devices) y device)) ≡ Some (cut_of (carried extent devices) r device)
-part_sum extent devices x y r device is shape added below =
+part_sum : (extent devices : ℕ) (x y r : TensorValue) (device : ℕ) → IsEvenlySplit extent devices → x.shape ≡ extent ∷ [] → x.width ≡ I32 → elementwise Addi x y ≡ Some r → device < devices * 1
+    → checked (vector (extent / devices)) (elementwise Addi (cut_of (by_cut extent devices) x device) (cut_of (by_cut extent devices) y device)) ≡ Some (cut_of (by_cut extent devices) r device)
+part_sum extent devices x y r device is shape width added below =
     let P : ShardingValue → Type 0 = λ s. elementwise Addi (cut_of s x device) (cut_of s y device) ≡ Some (cut_of s r device) in
     let cut = subst P (sym (is_line_sharding extent devices)) (cut_elementwise (line_sharding extent devices) Addi x y r device (line_is_sharding extent devices is) (no_halos extent devices) below shape added) in
-    ap (checked (vector (extent / devices))) cut ∙ passes (cut_of (carried extent devices) r device) (part_has_type extent devices r device)
+    ap (checked (vector (extent / devices))) cut
+    ∙ passes (cut_of (by_cut extent devices) r device) (part_has_type extent devices r device is below (width-elementwise Addi x y r added ∙ width))
   where
     passes : (t : TensorValue) → has_type (vector (extent / devices)) t ≡ true → checked (vector (extent / devices)) (Some t) ≡ Some t
     passes t h = rw h refl
 
 abbrev program_on : ℕ → ℕ → TensorValue → TensorValue → Program TensorValue
-program_on extent devices x y = sum_program extent (extent / devices) devices (cut_of (carried extent devices) x) (cut_of (carried extent devices) y)
+program_on extent devices x y = sum_program extent (extent / devices) devices (cut_of (by_cut extent devices) x) (cut_of (by_cut extent devices) y)
 
-sum_runs : (extent devices : ℕ) (x y r : TensorValue) → IsEvenlySplit extent devices → x.shape ≡ extent ∷ [] → elementwise Addi x y ≡ Some r → RunsRight (program_on extent devices x y) (λ c. cut_of (carried extent devices) r c ∷ [])
-sum_runs extent devices x y r is shape added =
-    runs_right extent (extent / devices) devices (cut_of (carried extent devices) x) (cut_of (carried extent devices) y) (cut_of (carried extent devices) r)
-    (λ c below. part_sum extent devices x y r c is shape added below)
+sum_runs : (extent devices : ℕ) (x y r : TensorValue) → IsEvenlySplit extent devices → x.shape ≡ extent ∷ [] → x.width ≡ I32 → elementwise Addi x y ≡ Some r → RunsRight (program_on extent devices x y) (λ c. cut_of (by_cut extent devices) r c ∷ [])
+sum_runs extent devices x y r is shape width added =
+    runs_right extent (extent / devices) devices (cut_of (by_cut extent devices) x) (cut_of (by_cut extent devices) y) (cut_of (by_cut extent devices) r)
+    (λ c below. part_sum extent devices x y r c is shape width added below)
 
 -- ---- functions
 
@@ -79,12 +88,13 @@ record AreVectors (extent : ℕ) (arguments : List TensorValue) : Type 0 where
   right : TensorValue
   both : arguments ≡ left ∷ right ∷ []
   shape : left.shape ≡ extent ∷ []
+  width : left.width ≡ I32
   other_shape : right.shape ≡ extent ∷ []
 
 two_vectors : (extent : ℕ) (arguments : List TensorValue) → AreOfTypes (argument_types (source_func extent)) arguments → AreVectors extent arguments
 two_vectors extent [] typed = absurd typed
 two_vectors extent (x ∷ []) typed = absurd typed.1
-two_vectors extent (x ∷ y ∷ []) typed = record { left = x; right = y; both = refl; shape = vector_shape extent x (typed.0, tt); other_shape = vector_shape extent y (typed.1.0, tt) }
+two_vectors extent (x ∷ y ∷ []) typed = record { left = x; right = y; both = refl; shape = vector_shape extent x (typed.0, tt); width = typed.0.width; other_shape = vector_shape extent y (typed.1.0, tt) }
 two_vectors extent (x ∷ y ∷ z ∷ ts) typed = absurd typed.1.1
 
 -- every run of the device function on the cuts of the arguments is right
@@ -96,21 +106,32 @@ sum_runs_on_cuts : (extent devices : ℕ) → IsEvenlySplit extent devices → (
 sum_runs_on_cuts extent devices is arguments results typed meant =
     let vectors = two_vectors extent arguments typed in
     let sum = sum_of extent vectors.left vectors.right results (ap (means (source_func extent)) (sym vectors.both) ∙ meant) in
-    let runs : RunsOnCuts extent devices (vectors.left ∷ vectors.right ∷ []) (sum.sum ∷ []) = sum_runs extent devices vectors.left vectors.right sum.sum is vectors.shape sum.is_sum in
+    let runs : RunsOnCuts extent devices (vectors.left ∷ vectors.right ∷ []) (sum.sum ∷ []) = sum_runs extent devices vectors.left vectors.right sum.sum is vectors.shape vectors.width sum.is_sum in
     subst (λ (r : List TensorValue). RunsOnCuts extent devices arguments r) (sym sum.is_result)
     (subst (λ (a : List TensorValue). RunsOnCuts extent devices a (sum.sum ∷ [])) (sym vectors.both) runs)
 
-pub sum_is_partition : (extent devices : ℕ) → IsEvenlySplit extent devices → IsPartition (source_func extent) (device_func extent (extent / devices)) (carry_of extent) (line_of_devices devices)
+-- the types of the device function are those of the parts
+has_local_types : (extent devices : ℕ) → IsEvenlySplit extent devices → HasLocalTypes (device_func extent (extent / devices)) (carry_of extent) (line devices)
+has_local_types extent devices is =
+    let here : vector (extent / devices) ≡ local_type (by_cut extent devices) (vector extent) =
+    sym (ap (λ s. local_type s (vector extent)) (is_line_sharding extent devices) ∙ local_type_is extent devices is) in
+    record {
+      of_arguments = ap (λ (type : ValueType). type ∷ type ∷ []) here;
+      of_results = ap (λ (type : ValueType). type ∷ []) here;
+      of_return = refl;
+    }
+
+pub sum_is_partition : (extent devices : ℕ) → IsEvenlySplit extent devices → IsPartition (source_func extent) (device_func extent (extent / devices)) (carry_of extent) (line devices)
 sum_is_partition extent devices is =
     let admitted = line_is_admitted extent devices is in
     record {
       name = refl;
       carries = refl;
-      on_grid = refl;
       is_grid = line_is_grid extent devices is;
       of_arguments = refl;
       of_results = refl;
       admitted = ((admitted, (admitted, tt)), (admitted, tt));
+      local = has_local_types extent devices is;
       runs = sum_runs_on_cuts extent devices is;
     }
 
@@ -124,17 +145,28 @@ the_one x = (0, omega arith, refl)
 
 -- the module in device form is the partition of that in source form
 pub sum_is_partitioned : (extent devices : ℕ) → IsEvenlySplit extent devices → IsPartitioned (module_of devices (source_func extent)) (module_of devices (device_func extent (extent / devices)))
-sum_is_partitioned extent devices is = λ source among unpartitioned.
-    let same = only_one (source_func extent) source among in
-    (device_func extent (extent / devices), carry_of extent, line_of_devices devices, the_one _, the_one _, subst (λ (f : Func). IsPartition f (device_func extent (extent / devices)) (carry_of extent) (line_of_devices devices)) (sym same) (sum_is_partition extent devices is))
+sum_is_partitioned extent devices is = record {
+  grids = refl;
+  functions = λ source among unpartitioned.
+      record {
+        function = device_func extent (extent / devices);
+        carry = carry_of extent;
+        grid = line devices;
+        among = the_one _;
+        on_grid = refl;
+        is_partition =
+            subst (λ (f : Func). IsPartition f (device_func extent (extent / devices)) (carry_of extent) (line devices)) (sym (only_one (source_func extent) source among))
+            (sum_is_partition extent devices is);
+      };
+}
 
 -- the two texts: what the one stands for is what the other stands for, partitioned
 pub sum_is_rewritten : (extent devices : ℕ) → IsEvenlySplit extent devices → IsRewritten (source_text extent devices) (partitioned_text extent devices)
 unfolding partitioned_text
 sum_is_rewritten extent devices is =
-    let small_extent : extent < 2 ^ 64 = omega (arith, is.few_cells) in
-    let small_devices : devices < 2 ^ 64 = omega (arith, is.few_devices) in
-    let small_local : extent / devices < 2 ^ 64 = omega (arith, is.few_cells, part_fits extent devices is) in
+    let small_extent : extent < 2 ^ 64 = omega (arith, is.limits.few_cells) in
+    let small_devices : devices < 2 ^ 64 = omega (arith, is.limits.few_devices) in
+    let small_local : extent / devices < 2 ^ 64 = omega (arith, is.limits.few_cells, part_fits extent devices is) in
     record {
       reads = (module_of devices (source_func extent), in_source_form extent devices small_extent small_devices refl refl);
       writes = (module_of devices (device_func extent (extent / devices)), in_device_form extent (extent / devices) devices small_extent small_local small_devices refl refl);
@@ -152,32 +184,25 @@ rewrites_to text out (Some o) (Some n) right appends = λ written e. subst (λ (
 -- what is written for a text of the one form
 pub sum_rewrites : (text out : List ℕ) (extent devices : ℕ) (old new : Option (List ℕ)) → IsVectorSum text extent devices → IsDivisible extent devices → out ≡ partitioned_text extent devices → Appends old new out → Rewrites (Some text) old new
 sum_rewrites text out extent devices old new is divisible made appends =
-    let line : IsEvenlySplit extent devices = record {
-      some_cells = is.some_cells;
-      few_cells = is.few_cells;
-      some_devices = is.some_devices;
-      few_devices = is.few_devices;
-      divisible = divisible;
-    } in
-    let right = sum_is_rewritten extent devices line in
+    let right = sum_is_rewritten extent devices (record { limits = is.limits; divisible = divisible }) in
     rewrites_to text out old new
     (subst (λ (t : List ℕ). IsRewritten t out) (sym is.is_text) (subst (λ (o : List ℕ). IsRewritten (source_text extent devices) o) (sym made) right))
     appends
 
 -- ---- running in step
 
-sums_in_step : (extent devices : ℕ) (x y r : TensorValue) → IsEvenlySplit extent devices → x.shape ≡ extent ∷ [] → elementwise Addi x y ≡ Some r
-    → lockstep (program_on extent devices x y) ≡ Done (map (λ c. cut_of (carried extent devices) r c ∷ []) (range_with_len 0 devices))
-sums_in_step extent devices x y r is shape added =
+sums_in_step : (extent devices : ℕ) (x y r : TensorValue) → IsEvenlySplit extent devices → x.shape ≡ extent ∷ [] → x.width ≡ I32 → elementwise Addi x y ≡ Some r
+    → lockstep (program_on extent devices x y) ≡ Done (map (λ c. cut_of (by_cut extent devices) r c ∷ []) (range_with_len 0 devices))
+sums_in_step extent devices x y r is shape width added =
     let one : devices * 1 ≡ devices = omega arith in
-    steps_to_sums extent (extent / devices) devices (cut_of (carried extent devices) x) (cut_of (carried extent devices) y) (cut_of (carried extent devices) r)
-    (λ c below. part_sum extent devices x y r c is shape added below)
-    ∙ ap (λ n. Done (map (λ c. cut_of (carried extent devices) r c ∷ []) (range_with_len 0 n))) one
+    steps_to_sums extent (extent / devices) devices (cut_of (by_cut extent devices) x) (cut_of (by_cut extent devices) y) (cut_of (by_cut extent devices) r)
+    (λ c below. part_sum extent devices x y r c is shape width added below)
+    ∙ ap (λ n. Done (map (λ c. cut_of (by_cut extent devices) r c ∷ []) (range_with_len 0 n))) one
 
 pub sum_in_step : (extent devices : ℕ) → IsEvenlySplit extent devices → StepsToSum extent devices
 sum_in_step extent devices is = λ arguments typed.
     let vectors = two_vectors extent arguments typed in
     let sum = sum_is_there vectors.left vectors.right (vectors.shape ∙ sym vectors.other_shape) in
     let meant : means (source_func extent) arguments ≡ Some (sum.0 ∷ []) = ap (means (source_func extent)) vectors.both ∙ source_means extent vectors.left vectors.right (Some sum.0) sum.1 in
-    let stepped = sums_in_step extent devices vectors.left vectors.right sum.0 is vectors.shape sum.1 in
-    (sum.0 ∷ [], meant, subst (λ (a : List TensorValue). lockstep (device_program (device_func extent (extent / devices)) (devices ∷ []) (cuts_of (line devices) (carry_of extent).args a)) ≡ Done (map (cuts_of (line devices) (carry_of extent).results (sum.0 ∷ [])) (range_with_len 0 devices))) (sym vectors.both) stepped)
+    let stepped = sums_in_step extent devices vectors.left vectors.right sum.0 is vectors.shape vectors.width sum.1 in
+    (sum.0 ∷ [], meant, subst (λ (a : List TensorValue). ends_in_step extent devices a ≡ Done (result_cuts extent devices (sum.0 ∷ []))) (sym vectors.both) stepped)

@@ -1,21 +1,18 @@
 -- What the source function of the one form means, and the program that its device function is.
-use Rattle.std.proofs.Common.{ap₂, ◌≡◌, ℕ, zero, suc, ◌+◌, ◌*◌, ◌<◌, true, false, List, [], ◌∷◌, Option, Some, None, refl, ap, sym, ◌∙◌, arith, length}
-use Rattle.std.proofs.lemmas.List.{get_or-map}
+use Rattle.std.proofs.Common.{ap₂, ◌≡◌, ℕ, zero, suc, ◌+◌, ◌*◌, ◌<◌, true, false, List, [], ◌∷◌, Option, Some, None, refl, ap, sym, ◌∙◌, arith}
 use Rattle.std.proofs.lemmas.Option.{same_Some}
 use Rattle.std.specs.List.{range_with_len}
-use Rattle.std.specs.Prelude.{filter_map, map, option_map, slice_index_or}
+use Rattle.std.specs.Prelude.{filter_map, map, option_map}
 use Rattle.sh_base.specs.declared.operations.BinOp.TheVariants.{Addi}
 use Rattle.sh_tensor.specs.Tensor.{TensorValue}
 use Rattle.sh_sem.specs.Elementwise.{elementwise}
 use Rattle.sh_sem.specs.Meaning.{means, value_of}
 use Rattle.sh_sem.specs.Device.{device_program, local_value, is_collective_at, places_returned, checked}
 use Rattle.sh_turns.specs.Program.{Program, IsWellFormed, there, values_before, value, returned}
-use Rattle.sh_turns.specs.Lockstep.{Done, is_done, lockstep, results_of, HasAllValues}
-use Rattle.sh_turns.specs.World.{World, Device, fresh, device_at, finished}
-use Rattle.sh_turns.specs.Law.{HoldsAfter}
-use Rattle.sh_turns.proofs.EveryOrder.{every_order}
-use Rattle.sh_turns.proofs.InStep.{all_results, done_where_all_there, present_of, results_are}
-use Rattle.sh_cli.specs.Headline.{RunsRight}
+use Rattle.sh_turns.specs.Lockstep.{Done, lockstep, results_of, HasAllValues}
+use Rattle.sh_turns.proofs.InStep.{all_results, done_where_all_there, present_of}
+use Rattle.sh_pieces.specs.Right.{RunsRight}
+use Rattle.sh_pieces.proofs.Bridge.{right_where_done}
 use Rattle.sh_cli.specs.Modules.{source_func, device_func, vector}
 
 -- ---- the source
@@ -87,10 +84,6 @@ module _ (extent local devices : ℕ) (first second : ℕ → TensorValue) where
     returns_sum : (c : ℕ) → returned sum_program (first c ∷ second c ∷ sum c ∷ []) ≡ sum c ∷ []
     returns_sum c = rw returns_last refl
 
-    -- in step each device ends with its sum
-    pub in_step : (rows : List (List TensorValue)) → lockstep sum_program ≡ Done rows → (c : ℕ) → c < devices * 1 → slice_index_or rows c [] ≡ sum c ∷ []
-    in_step rows e c device = results_are sum_program rows e c (first c ∷ second c ∷ sum c ∷ []) device (values_are c device) ∙ returns_sum c
-
     results_are_sums : (c : ℕ) → c < devices * 1 → results_of sum_program c ≡ sum c ∷ []
     results_are_sums c device =
         ap (λ vs. returned sum_program (filter_map (λ v. v) vs)) (sym (values_are c device)) ∙ ap (returned sum_program) (present_of (first c ∷ second c ∷ sum c ∷ [])) ∙ returns_sum c
@@ -102,25 +95,6 @@ module _ (extent local devices : ℕ) (first second : ℕ → TensorValue) where
         done_where_all_there sum_program has_values
         ∙ ap (λ rows. Done rows) (map_range (results_of sum_program) (λ c. sum c ∷ []) 0 (devices * 1) (λ c below. results_are_sums c (omega arith)))
 
-    pub steps_done : (rows : List (List TensorValue)) × (lockstep sum_program ≡ Done rows)
-    steps_done = (_, done_where_all_there sum_program has_values)
-
-    device_results : (schedule : List ℕ) (w : World TensorValue) → HoldsAfter sum_program schedule w → finished sum_program w ≡ true → (c : ℕ) → c < devices * 1 → returned sum_program (device_at w c).values ≡ sum c ∷ []
-    device_results schedule w holds end c device =
-        let rows = steps_done.0 in
-        let here : c < length w = omega (arith, holds.agree.devices) in
-        let mapped : map (λ d. returned sum_program d.values) w ≡ rows = holds.results rows steps_done.1 end in
-        let row : slice_index_or (map (λ d. returned sum_program d.values) w) c [] ≡ returned sum_program (device_at w c).values = get_or-map (λ (d : Device TensorValue). returned sum_program d.values) w c (fresh []) [] here in
-        sym row ∙ ap (λ l. slice_index_or l c []) mapped ∙ in_step rows steps_done.1 c device
-
     -- every run ends with the sums
     pub runs_right : RunsRight sum_program (λ c. sum c ∷ [])
-    runs_right schedule w ran =
-        let holds = every_order sum_program well_formed schedule w ran in
-        record {
-          no_fault = holds.no_fault (ap is_done steps_done.1);
-          progress = holds.progress;
-          no_longer = holds.no_longer;
-          exact = holds.exact;
-          results = λ end c device. device_results schedule w holds end c device;
-        }
+    runs_right = right_where_done sum_program (λ c. sum c ∷ []) steps_to_sums well_formed

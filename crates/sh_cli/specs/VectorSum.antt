@@ -2,6 +2,8 @@
 use Rattle.std.specs.Prelude.{◌≡◌, ℕ, ◌*◌, ◌/◌, ◌<◌, ◌≤◌, List, [], ◌∷◌, codes}
 use Rattle.std.specs.Fmt.{decimal}
 use Rattle.std.specs.List.{concat}
+use Rattle.sh_base.specs.Shape.{max_cells}
+use Rattle.sh_grid.specs.Grid.{max_devices}
 
 -- the type of a vector of 32-bit cells
 unfoldable pub vector_type : ℕ → List ℕ
@@ -49,12 +51,16 @@ unfoldable pub partitioned_text : ℕ → ℕ → List ℕ
 partitioned_text extent devices =
     partitioned_layout (vector_type extent) (vector_type (extent / devices)) (decimal devices)
 
+-- there are cells and devices, and not too many
+pub record IsWithinLimits (extent devices : ℕ) : Type 0 where
+  pub some_cells : 0 < extent
+  pub few_cells : extent ≤ max_cells
+  pub some_devices : 0 < devices
+  pub few_devices : devices ≤ max_devices
+
 -- a text is the sum of two vectors of this extent, split over so many devices
 pub record IsVectorSum (text : List ℕ) (extent devices : ℕ) : Type 0 where
-  pub some_cells : 0 < extent
-  pub few_cells : extent ≤ 1048576
-  pub some_devices : 0 < devices
-  pub few_devices : devices ≤ 1024
+  pub limits : IsWithinLimits extent devices
   pub is_text : text ≡ source_text extent devices
 
 -- the parts of the vectors have one size
@@ -63,8 +69,5 @@ IsDivisible extent devices = devices * (extent / devices) ≡ extent
 
 -- numbers of the one form whose parts have one size
 pub record IsEvenlySplit (extent devices : ℕ) : Type 0 where
-  pub some_cells : 0 < extent
-  pub few_cells : extent ≤ 1048576
-  pub some_devices : 0 < devices
-  pub few_devices : devices ≤ 1024
+  pub limits : IsWithinLimits extent devices
   pub divisible : IsDivisible extent devices

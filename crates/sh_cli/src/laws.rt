@@ -1,5 +1,5 @@
 ghost use Rattle.std.specs.Prelude.{◌≡◌, ℕ, List};
-ghost use Rattle.sh_cli.specs.Headline.{StepsToSum};
+ghost use Rattle.sh_cli.specs.InStep.{StepsToSum};
 ghost use Rattle.sh_cli.specs.VectorSum.{IsVectorSum, IsEvenlySplit};
 
 /// A text is the source form of one sum at most: its numbers are determined by its bytes.

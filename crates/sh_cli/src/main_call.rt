@@ -1,6 +1,6 @@
 ghost use Rattle.std.specs.Prelude.{◌≡◌, ◌≢◌, ℕ, Some, IfSome, IfOk, IfErr, map, string_bytes};
 ghost use Rattle.sh_io.specs.Causes.{Rose};
-ghost use Rattle.sh_cli.specs.Answer.{Takes, IsOfNoForm, IsIndivisible, IsRefusal, Partitions, WritesOutput, WritesLine, IsJudgement, line_of};
+ghost use Rattle.sh_cli.specs.Answer.{Takes, IsOfNoForm, IsRefusal, Partitions, WritesOutput, WritesLine, IsJudgement, line_of};
 ghost use Rattle.sh_cli.specs.Headline.{Rewrites};
 ghost use Rattle.sh_cli.specs.Words.{AreAccepted};
 
@@ -35,9 +35,8 @@ pub fn shard_main<S: Source, O: Sink, E: Sink>(
     ensures write { result ≡ Status.Write → Rose (O.faults out.old) (O.faults out.new) }
     ensures taken { Takes result (S.left src.old) (S.left src.new) }
 
-    // Each text is of no form, indivisible or partitioned, and never two of these.
+    // Each text is of no form that is built, or partitioned, and never both.
     ensures unbuilt { result ≡ Status.Unbuilt → IfSome (S.left src.old) IsOfNoForm }
-    ensures admission { result ≡ Status.Admission → IfSome (S.left src.old) IsIndivisible }
     ensures output { WritesOutput result (S.left src.old) (O.written out.old) (O.written out.new) }
 
     // The headline: what was written runs as what was read means, in every order of device turns.
@@ -71,7 +70,6 @@ fn rewrite<S: Source, O: Sink>(
     ensures write { result ≡ Status.Write → Rose (O.faults out.old) (O.faults out.new) }
     ensures taken { Takes result (S.left src.old) (S.left src.new) }
     ensures unbuilt { result ≡ Status.Unbuilt → IfSome (S.left src.old) IsOfNoForm }
-    ensures admission { result ≡ Status.Admission → IfSome (S.left src.old) IsIndivisible }
     ensures output { WritesOutput result (S.left src.old) (O.written out.old) (O.written out.new) }
     ensures headline { result ≡ Status.Success → Rewrites (S.left src.old) (O.written out.old) (O.written out.new) }
 {
@@ -89,7 +87,6 @@ fn rewrite_text<O: Sink>(alloc: Global, text: &[u8], out: &mut O) -> Status
     ensures judged { IsJudgement result }
     ensures write { result ≡ Status.Write → Rose (O.faults out.old) (O.faults out.new) }
     ensures unbuilt { result ≡ Status.Unbuilt → IsOfNoForm text.now }
-    ensures admission { result ≡ Status.Admission → IsIndivisible text.now }
     ensures output { WritesOutput result (Some text.now) (O.written out.old) (O.written out.new) }
     ensures headline { result ≡ Status.Success → Rewrites (Some text.now) (O.written out.old) (O.written out.new) }
 {
@@ -111,7 +108,7 @@ fn partition(alloc: Global, text: &[u8]) -> Result<String, Status>
         return Err(Status::Unbuilt);
     };
     if !sum.is_divisible() {
-        return Err(Status::Admission);
+        return Err(Status::Unbuilt);
     }
     Ok(sum.partitioned_text(alloc)?)
 }

@@ -13,8 +13,6 @@ pub enum Status {
     Success,
     /// The command words aren't accepted.
     Usage,
-    /// A sharding isn't admitted.
-    Admission,
     /// The input failed.
     Read,
     /// The output failed.
@@ -35,7 +33,6 @@ impl Status {
         match self {
             Status::Success => 0,
             Status::Usage => 2,
-            Status::Admission => 5,
             Status::Read => 10,
             Status::Write => 11,
             Status::Limit => 12,
@@ -53,7 +50,6 @@ impl Status {
             Tool::Opt => match self {
                 Status::Success => "",
                 Status::Usage => "shard-opt: error 2 usage\n",
-                Status::Admission => "shard-opt: error 5 A4 at 5:5\n",
                 Status::Read => "shard-opt: error 10 read\n",
                 Status::Write => "shard-opt: error 11 write\n",
                 Status::Limit => "shard-opt: error 12 L1\n",

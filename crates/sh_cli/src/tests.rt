@@ -96,11 +96,10 @@ fn partitions_a_sum(rt: HostRuntime) -> Result<(), Fail> {
 }
 
 #[test]
-fn refuses_parts_of_unequal_size(rt: HostRuntime) -> Result<(), Fail> {
+fn parts_of_unequal_size_are_unbuilt(rt: HostRuntime) -> Result<(), Fail> {
     let alloc = rt.alloc();
     let src = whole(alloc, source(alloc, "5", "2")?.as_str())?;
-    let line = "shard-opt: error 5 A4 at 5:5\n";
-    expect(&rt, alloc, src, Status::Admission, "", line)
+    expect(&rt, alloc, src, Status::Unbuilt, "", UNBUILT)
 }
 
 #[test]
@@ -153,16 +152,13 @@ fn one_byte_past_the_limit_is_refused(rt: HostRuntime) -> Result<(), Fail> {
     let most = vec![in alloc; b' '; 16_777_216]?;
     let src = mem_source(most, u64::MAX, Vec::new(alloc));
     expect(&rt, alloc, src, Status::Unbuilt, "", UNBUILT)?;
-    let more = vec![in alloc; b' '; 16_777_217]?;
-    let src = mem_source(more, u64::MAX, Vec::new(alloc));
-    expect(
-        &rt,
-        alloc,
-        src,
-        Status::Limit,
-        "",
-        "shard-opt: error 12 L1\n",
-    )
+    for length in [16_777_217, 16_777_219, 20_000_000] {
+        let more = vec![in alloc; b' '; length]?;
+        let src = mem_source(more, u64::MAX, Vec::new(alloc));
+        let line = "shard-opt: error 12 L1\n";
+        expect(&rt, alloc, src, Status::Limit, "", line)?;
+    }
+    Ok(())
 }
 
 #[test]

@@ -1,16 +1,11 @@
 ghost use Rattle.std.specs.Prelude.{◌≡◌, ◌==◌, ℕ, false, ◌/◌, ◌^◌, ◌<◌, ◌≤◌, ◌↔◌, ◌⊎◌, List, ◌∷◌, ◌++◌, IsTrue, Some, IfOk, IfSome, IfNone, IsSomeAnd, length, string_bytes};
 ghost use Rattle.std.specs.Fmt.{decimal};
 ghost use Rattle.std.specs.List.{list_any, position};
-ghost use Rattle.sh_cli.specs.VectorSum.{vector_type, source_layout, source_text, partitioned_layout, partitioned_text, IsVectorSum, IsDivisible};
+ghost use Rattle.sh_cli.specs.VectorSum.{vector_type, source_layout, source_text, partitioned_layout, partitioned_text, IsVectorSum, IsDivisible, IsWithinLimits};
 
-use sh_base::Mem;
+use sh_base::{MAX_CELLS, Mem};
+use sh_grid::MAX_DEVICES;
 use std::alloc::Global;
-
-/// The most cells of a vector.
-const MOST_CELLS: u64 = 1_048_576;
-
-/// The most devices of a grid.
-const MOST_DEVICES: u64 = 1_024;
 
 /// The sum of two vectors of 32-bit cells, split over a line of devices: the one form of module that
 /// is partitioned today.
@@ -42,9 +37,9 @@ impl VectorSum {
 
     /// Whether there are cells and devices, and not too many.
     fn is_within_limits(self) -> bool
-        ensures { IsTrue result ↔ (0 < self.extent) × (self.extent ≤ 1048576) × (0 < self.devices) × (self.devices ≤ 1024) }
+        ensures { IsTrue result ↔ IsWithinLimits self.extent self.devices }
     {
-        (1..=MOST_CELLS).contains(&self.extent) && (1..=MOST_DEVICES).contains(&self.devices)
+        (1..=MAX_CELLS).contains(&self.extent) && (1..=MAX_DEVICES).contains(&self.devices)
     }
 
     /// Whether each device can have an equal part of each vector.

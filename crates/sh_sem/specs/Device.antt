@@ -1,10 +1,7 @@
 -- The program that a function in device form is: what each device of a grid runs.
-use Rattle.std.specs.Prelude.{ℕ, ◌-◌, ◌==◌, Bool, true, false, ◌&&◌, List, [], ◌∷◌, ◌++◌, map, length, filter_map, position, slice_get, Option, Some, None, option_and_then, unwrap_or, if◌then◌else◌}
+use Rattle.std.specs.Prelude.{ℕ, ◌-◌, ◌==◌, Bool, true, false, List, [], ◌++◌, map, length, filter_map, position, slice_get, Option, Some, None, option_and_then, unwrap_or, if◌then◌else◌}
 use Rattle.sh_base.specs.Shape.{cell_count}
-use Rattle.sh_ir.specs.declared.types.Dim.{Dim}
-use Rattle.sh_ir.specs.declared.types.Dim.TheVariants.{Known, Differs}
 use Rattle.sh_ir.specs.declared.types.ValueType.{ValueType}
-use Rattle.sh_ir.specs.declared.types.ValueType.TheVariants.{Nothing, Scalar, Tensor, Sharding}
 use Rattle.sh_ir.specs.declared.operations.Op.{Op}
 use Rattle.sh_ir.specs.declared.functions.Func.{Func}
 use Rattle.sh_ir.specs.declared.classification.OpClass.{OpClass}
@@ -13,22 +10,7 @@ use Rattle.sh_ir.specs.Classes.{class_of}
 use Rattle.sh_tensor.specs.Tensor.{TensorValue}
 use Rattle.sh_turns.specs.Program.{Program}
 use Rattle.sh_sem.specs.Meaning.{value_of, returned}
-
--- ---- types
-
--- the extents are as many as the type says, and those that it knows
-abbrev pub have_extents : List Dim → List ℕ → Bool
-have_extents [] [] = true
-have_extents [] (n ∷ ns) = false
-have_extents (d ∷ ds) [] = false
-have_extents (Known m ∷ ds) (n ∷ ns) = (m == n) && have_extents ds ns
-have_extents (Differs ∷ ds) (n ∷ ns) = have_extents ds ns
-
-abbrev pub has_type : ValueType → TensorValue → Bool
-has_type Nothing t = false
-has_type (Scalar w) t = have_extents [] t.shape
-has_type (Tensor type) t = have_extents type.dims t.shape
-has_type Sharding t = false
+use Rattle.sh_sem.specs.Types.{has_type}
 
 -- ---- values by name
 
@@ -50,7 +32,7 @@ checked type None = None
 checked type (Some t) = if has_type type t then Some t else None
 
 -- What an instruction gives on a device's own earlier values. It is stuck where the operation is, and
--- where an extent that its type knows isn't the actual one.
+-- where its value isn't of its type.
 abbrev pub given : Func → List (Option TensorValue) → Option Op → Option TensorValue
 given f values None = None
 given f values (Some op) = checked op.result (value_of op.kind (map (value_named f values) op.operands))

@@ -1,3 +1,4 @@
 pub mod Device
 pub mod Elementwise
 pub mod Meaning
+pub mod Types

@@ -6,15 +6,12 @@ use Rattle.sh_ir.specs.declared.operations.OpKind.TheVariants.{Binary, Shard}
 use Rattle.sh_ir.specs.declared.functions.Func.{Func}
 use Rattle.sh_ir.specs.declared.classification.OpClass.{OpClass}
 use Rattle.sh_ir.specs.declared.classification.OpClass.TheVariants as class
+use Rattle.sh_ir.specs.declared.types.ValueType.{ValueType}
 use Rattle.sh_ir.specs.Classes.{class_of}
+use Rattle.sh_ir.specs.Written.{written_by}
 use Rattle.sh_tensor.specs.Tensor.{TensorValue}
+use Rattle.sh_turns.specs.Program.{all_there}
 use Rattle.sh_sem.specs.Elementwise.{elementwise}
-
--- the list, if each part is there
-abbrev pub all_there : {V : Type 0} → List (Option V) → Option (List V)
-all_there [] = Some []
-all_there (None ∷ vs) = None
-all_there (Some v ∷ vs) = option_map (λ ws. v ∷ ws) (all_there vs)
 
 -- what an operation of two operands gives, if both are there
 abbrev pub on_two : {V : Type 0} → (V → V → Option V) → List (Option V) → Option V
@@ -59,14 +56,20 @@ abbrev pub after_all : List Op → Named → Option Named
 after_all [] values = Some values
 after_all (op ∷ ops) values = option_and_then (after_all ops) (after_class (class_of op.kind) op values)
 
--- the names that the return gives back
-abbrev pub returned_by : OpClass → List ℕ → List ℕ → List ℕ
-returned_by class.Return operands others = operands
-returned_by _ operands others = others
+-- what the return says, of what each operation would
+abbrev pub at_return : {X : Type 0} → OpClass → X → X → X
+at_return class.Return own others = own
+at_return _ own others = others
 
+-- the names that the return gives back
 abbrev pub returned : List Op → List ℕ
 returned [] = []
-returned (op ∷ ops) = returned_by (class_of op.kind) op.operands (returned ops)
+returned (op ∷ ops) = at_return (class_of op.kind) op.operands (returned ops)
+
+-- the types that it writes for them
+abbrev pub returned_types : List Op → List ValueType
+returned_types [] = []
+returned_types (op ∷ ops) = at_return (class_of op.kind) (written_by op.kind).types (returned_types ops)
 
 -- the results of a function on these arguments; none where an operation is stuck
 unfoldable pub means : Func → List TensorValue → Option (List TensorValue)
