@@ -1,5 +1,5 @@
--- The headline: what holds of a module in source form and of the module in device form that was written
--- for it, in every order of device turns.
+-- The headline: what holds of a module in source form and of the module in device form that was
+-- written for it, in every order of device turns.
 use Rattle.std.specs.Prelude.{◌≡◌, ℕ, List, ◌++◌, map, Option, Some, None, Contains}
 use Rattle.sh_grid.specs.Grid.{GridValue, IsGrid}
 use Rattle.sh_ir.specs.declared.functions.Carry.{Carry}
@@ -27,7 +27,8 @@ RunsAsMeant source written carry g =
     (arguments results : List TensorValue)
     → AreOfTypes (argument_types source) arguments
     → means source arguments ≡ Some results
-    → RunsRight (device_program written g.extents (cuts_of g carry.args arguments)) (cuts_of g carry.results results)
+    → RunsRight (device_program written g.extents (cuts_of g carry.args arguments))
+    (cuts_of g carry.results results)
 
 -- a function in device form is a partition of the one in source form, on a grid
 pub record IsPartition (source written : Func) (carry : Carry) (g : GridValue) : Type 0 where
@@ -49,20 +50,24 @@ pub record HasPartition (source : Func) (m written : Module) : Type 0 where
   pub on_grid : grid_named m.grids carry.grid ≡ Some grid
   pub is_partition : IsPartition source function carry grid
 
--- the modules have the same grids, and each function in source form of the one its partition in the other
+-- the modules have the same grids, and each function in source form of the one its partition in the
+-- other
 pub record IsPartitioned (m written : Module) : Type 0 where
   pub grids : map grid_of written.grids ≡ map grid_of m.grids
-  pub functions : (source : Func) → Contains m.funcs source → source.carry ≡ None → HasPartition source m written
+  pub functions : (source : Func) → Contains m.funcs source → source.carry ≡ None
+      → HasPartition source m written
 
 -- The two texts stand for modules, and whichever they stand for, the second is the first partitioned.
 pub record IsRewritten (text written : List ℕ) : Type 0 where
   pub reads : (m : Module) × StandsFor text m
   pub writes : (m : Module) × StandsFor written m
-  pub right : (m rewritten : Module) → StandsFor text m → StandsFor written rewritten → IsPartitioned m rewritten
+  pub right : (m rewritten : Module) → StandsFor text m → StandsFor written rewritten
+      → IsPartitioned m rewritten
 
 -- where the source told its text and the sink what it took, that text was rewritten
 abbrev pub Rewrites : Option (List ℕ) → Option (List ℕ) → Option (List ℕ) → Type 0
 Rewrites None old new = Unit {0}
 Rewrites (Some text) None new = Unit {0}
 Rewrites (Some text) (Some old) None = Unit {0}
-Rewrites (Some text) (Some old) (Some new) = (written : List ℕ) → new ≡ old ++ written → IsRewritten text written
+Rewrites (Some text) (Some old) (Some new) =
+    (written : List ℕ) → new ≡ old ++ written → IsRewritten text written

@@ -10,18 +10,24 @@ use Rattle.sh_sem.specs.Types.{AreOfTypes}
 use Rattle.sh_turns.specs.Lockstep.{Outcome, Done, lockstep}
 use Rattle.sh_cli.specs.Modules.{carry_of, device_func, line_of_devices, source_func}
 
--- how the device function ends in step, started on the cuts of these arguments
+-- the cuts of these arguments, by device
+abbrev pub argument_cuts : ℕ → ℕ → List TensorValue → ℕ → List TensorValue
+argument_cuts extent devices = cuts_of (grid_of (line_of_devices devices)) (carry_of extent).args
+
+-- how the device function ends in step, started on them
 abbrev pub ends_in_step : ℕ → ℕ → List TensorValue → Outcome TensorValue
 ends_in_step extent devices arguments =
-    lockstep (device_program (device_func extent (extent / devices)) (devices ∷ []) (cuts_of (grid_of (line_of_devices devices)) (carry_of extent).args arguments))
+    lockstep (device_program (device_func extent (extent / devices)) (devices ∷ [])
+    (argument_cuts extent devices arguments))
 
 -- the cuts of these results, by device
 abbrev pub result_cuts : ℕ → ℕ → List TensorValue → List (List TensorValue)
 result_cuts extent devices results =
-    map (cuts_of (grid_of (line_of_devices devices)) (carry_of extent).results results) (range_with_len 0 devices)
+    map (cuts_of (grid_of (line_of_devices devices)) (carry_of extent).results results)
+    (range_with_len 0 devices)
 
--- The device function of the one form, started on the cuts of any arguments, runs in step to its end and
--- leaves each device the cut of the sum, which is there for all arguments.
+-- The device function of the one form, started on the cuts of any arguments, runs in step to its end
+-- and leaves each device the cut of the sum, which is there for all arguments.
 abbrev pub StepsToSum : ℕ → ℕ → Type 0
 StepsToSum extent devices =
     (arguments : List TensorValue)

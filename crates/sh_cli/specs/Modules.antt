@@ -97,5 +97,9 @@ module_of devices f = record { name = None; grids = line_of_devices devices ∷ 
 
 -- bytes stand for a module: they are one of the two texts, with these numbers
 pub data StandsFor (bytes : List ℕ) (m : Module) : Type 0 where
-  in_source_form : (extent devices : ℕ) → extent < 2 ^ 64 → devices < 2 ^ 64 → bytes ≡ source_text extent devices → m ≡ module_of devices (source_func extent) → StandsFor bytes m
-  in_device_form : (extent local devices : ℕ) → extent < 2 ^ 64 → local < 2 ^ 64 → devices < 2 ^ 64 → bytes ≡ partitioned_layout (vector_type extent) (vector_type local) (decimal devices) → m ≡ module_of devices (device_func extent local) → StandsFor bytes m
+  in_source_form : (extent devices : ℕ) → extent < 2 ^ 64 → devices < 2 ^ 64
+      → bytes ≡ source_text extent devices
+      → m ≡ module_of devices (source_func extent) → StandsFor bytes m
+  in_device_form : (extent local devices : ℕ) → extent < 2 ^ 64 → local < 2 ^ 64 → devices < 2 ^ 64
+      → bytes ≡ partitioned_layout (vector_type extent) (vector_type local) (decimal devices)
+      → m ≡ module_of devices (device_func extent local) → StandsFor bytes m

@@ -25,8 +25,10 @@ pub fn shard_main<S: Source, O: Sink, E: Sink>(
     err: &mut E,
 ) -> Status
     // Usage comes exactly where the words aren't accepted, and then nothing is read.
-    ensures usage { result ≡ Status.Usage → ¬ (AreAccepted tool (map string_bytes words.now.items)) }
-    ensures accepted { result ≢ Status.Usage → AreAccepted tool (map string_bytes words.now.items) }
+    ensures usage { result ≡ Status.Usage
+        → ¬ (AreAccepted tool (map string_bytes words.now.items)) }
+    ensures accepted { result ≢ Status.Usage
+        → AreAccepted tool (map string_bytes words.now.items) }
     ensures unread { result ≡ Status.Usage → src.new ≡ src.old }
 
     // Read and Write come only where the source or the output failed in this call. Limit comes exactly
@@ -37,11 +39,14 @@ pub fn shard_main<S: Source, O: Sink, E: Sink>(
 
     // Each text is of no form that is built, or partitioned, and never both.
     ensures unbuilt { result ≡ Status.Unbuilt → IfSome (S.left src.old) IsOfNoForm }
-    ensures output { WritesOutput result (S.left src.old) (O.written out.old) (O.written out.new) }
+    ensures output { WritesOutput result (S.left src.old)
+        (O.written out.old) (O.written out.new) }
 
     // The headline: what was written runs as what was read means, in every order of device turns.
-    ensures headline { result ≡ Status.Success → Rewrites (S.left src.old) (O.written out.old) (O.written out.new) }
-    ensures line { WritesLine (line_of tool result) (E.written err.old) (E.written err.new) (E.faults err.old) (E.faults err.new) }
+    ensures headline { result ≡ Status.Success
+        → Rewrites (S.left src.old) (O.written out.old) (O.written out.new) }
+    ensures line { WritesLine (line_of tool result)
+        (E.written err.old) (E.written err.new) (E.faults err.old) (E.faults err.new) }
 {
     let status = rewrite(alloc, tool, words, src, out);
     report(status.line(tool), err);
@@ -50,7 +55,8 @@ pub fn shard_main<S: Source, O: Sink, E: Sink>(
 
 /// Writes an error line, as far as the error output takes it.
 fn report<E: Sink>(line: &str, err: &mut E)
-    ensures { WritesLine line.now (E.written err.old) (E.written err.new) (E.faults err.old) (E.faults err.new) }
+    ensures { WritesLine line.now
+        (E.written err.old) (E.written err.new) (E.faults err.old) (E.faults err.new) }
 {
     let _ = write_text(err, line.as_bytes());
 }
@@ -63,15 +69,19 @@ fn rewrite<S: Source, O: Sink>(
     src: &mut S,
     out: &mut O,
 ) -> Status
-    ensures usage { result ≡ Status.Usage → ¬ (AreAccepted tool (map string_bytes words.now.items)) }
-    ensures accepted { result ≢ Status.Usage → AreAccepted tool (map string_bytes words.now.items) }
+    ensures usage { result ≡ Status.Usage
+        → ¬ (AreAccepted tool (map string_bytes words.now.items)) }
+    ensures accepted { result ≢ Status.Usage
+        → AreAccepted tool (map string_bytes words.now.items) }
     ensures unread { result ≡ Status.Usage → src.new ≡ src.old }
     ensures read { result ≡ Status.Read → Rose (S.faults src.old) (S.faults src.new) }
     ensures write { result ≡ Status.Write → Rose (O.faults out.old) (O.faults out.new) }
     ensures taken { Takes result (S.left src.old) (S.left src.new) }
     ensures unbuilt { result ≡ Status.Unbuilt → IfSome (S.left src.old) IsOfNoForm }
-    ensures output { WritesOutput result (S.left src.old) (O.written out.old) (O.written out.new) }
-    ensures headline { result ≡ Status.Success → Rewrites (S.left src.old) (O.written out.old) (O.written out.new) }
+    ensures output { WritesOutput result (S.left src.old)
+        (O.written out.old) (O.written out.new) }
+    ensures headline { result ≡ Status.Success
+        → Rewrites (S.left src.old) (O.written out.old) (O.written out.new) }
 {
     if !are_accepted(tool, words) {
         return Status::Usage;
@@ -88,7 +98,8 @@ fn rewrite_text<O: Sink>(alloc: Global, text: &[u8], out: &mut O) -> Status
     ensures write { result ≡ Status.Write → Rose (O.faults out.old) (O.faults out.new) }
     ensures unbuilt { result ≡ Status.Unbuilt → IsOfNoForm text.now }
     ensures output { WritesOutput result (Some text.now) (O.written out.old) (O.written out.new) }
-    ensures headline { result ≡ Status.Success → Rewrites (Some text.now) (O.written out.old) (O.written out.new) }
+    ensures headline { result ≡ Status.Success
+        → Rewrites (Some text.now) (O.written out.old) (O.written out.new) }
 {
     match partition(alloc, text) {
         Ok(output) => match write_text(out, output.as_bytes()) {
@@ -101,7 +112,8 @@ fn rewrite_text<O: Sink>(alloc: Global, text: &[u8], out: &mut O) -> Status
 
 /// The text of the partitioned module.
 fn partition(alloc: Global, text: &[u8]) -> Result<String, Status>
-    ensures ok { IfOk result (λ output. Partitions (Some text.now) (λ written. string_bytes output ≡ written)) }
+    ensures ok { IfOk result (λ output.
+        Partitions (Some text.now) (λ written. string_bytes output ≡ written)) }
     ensures err { IfErr result (λ status. IsRefusal status text.now) }
 {
     let Some(sum) = VectorSum::read(alloc, text)? else {

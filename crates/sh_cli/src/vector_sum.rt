@@ -20,8 +20,10 @@ pub(crate) struct VectorSum {
 impl VectorSum {
     /// The sum that a text is the source form of, if it is one.
     pub fn read(alloc: Global, text: &[u8]) -> Result<Option<VectorSum>, Mem>
-        ensures some { IfOk result (λ read. IfSome read (λ sum. IsVectorSum text.now sum.extent sum.devices)) }
-        ensures none { IfOk result (λ read. IfNone read ((extent devices : ℕ) → ¬ (IsVectorSum text.now extent devices))) }
+        ensures some { IfOk result (λ read.
+            IfSome read (λ sum. IsVectorSum text.now sum.extent sum.devices)) }
+        ensures none { IfOk result (λ read.
+            IfNone read ((extent devices : ℕ) → ¬ (IsVectorSum text.now extent devices))) }
     {
         let Some(sum) = guess(text) else {
             return Ok(None);
@@ -73,7 +75,8 @@ impl VectorSum {
 
 /// The sum with the numbers that stand where a text in source form has its own.
 fn guess(text: &[u8]) -> Option<VectorSum>
-    ensures { (extent devices : ℕ) → IsVectorSum text.now extent devices → result ≡ Some (record { extent = extent; devices = devices }) }
+    ensures { (extent devices : ℕ) → IsVectorSum text.now extent devices
+        → result ≡ Some (record { extent = extent; devices = devices }) }
 {
     let (devices, rest) = number_between(text, b"module {\n  shard.grid @g(shape = ", b')')?;
     let (extent, _) = number_between(rest, b"\n  func.func @f(%a: tensor<", b'x')?;
@@ -84,7 +87,9 @@ fn guess(text: &[u8]) -> Option<VectorSum>
 /// what comes after that.
 fn number_between<'a>(text: &'a [u8], before: &[u8], after: u8) -> Option<(u64, &'a [u8])>
     requires { (after < 48) ⊎ (57 < after) }
-    ensures { (n : ℕ) (rest : List ℕ) → n < 2 ^ 64 → text.now ≡ before.now ++ (decimal n ++ after ∷ rest) → IsSomeAnd result (λ found. (found.0 ≡ n) × (found.1.now ≡ rest)) }
+    ensures { (n : ℕ) (rest : List ℕ) → n < 2 ^ 64
+        → text.now ≡ before.now ++ (decimal n ++ after ∷ rest)
+        → IsSomeAnd result (λ found. (found.0 ≡ n) × (found.1.now ≡ rest)) }
 {
     let rest = text.strip_prefix(before)?;
     let (digits, rest) = split_at_byte(rest, after)?;
@@ -93,7 +98,9 @@ fn number_between<'a>(text: &'a [u8], before: &[u8], after: u8) -> Option<(u64, 
 
 /// What stands before the first such byte, and what stands after it.
 fn split_at_byte(text: &[u8], byte: u8) -> Option<(&[u8], &[u8])>
-    ensures { (before after : List ℕ) → list_any (λ b. b == byte) before ≡ false → text.now ≡ before ++ byte ∷ after → IsSomeAnd result (λ parts. (parts.0.now ≡ before) × (parts.1.now ≡ after)) }
+    ensures { (before after : List ℕ) → list_any (λ b. b == byte) before ≡ false
+        → text.now ≡ before ++ byte ∷ after
+        → IsSomeAnd result (λ parts. (parts.0.now ≡ before) × (parts.1.now ≡ after)) }
 {
     let end = position_of(text, byte)?;
     Some((&text[..end], &text[end + 1..]))
