@@ -6,7 +6,11 @@
 mod admissions;
 #[cfg(test)]
 mod cuts;
+#[cfg(test)]
+mod descriptions;
 mod examples;
+#[cfg(test)]
+mod readings;
 mod tensors;
 mod unread;
 
