@@ -1,0 +1,12 @@
+pub mod CostLaws
+mod Examples
+pub mod CertificateLaws
+mod Elements
+mod States
+mod Gathers
+mod Unused
+mod Towards
+pub mod Reaches
+mod CostSteps
+mod MoveSteps
+mod CandidateSteps

@@ -1,0 +1,25 @@
+ghost use Rattle.std.specs.Prelude.{ℕ, List};
+ghost use Rattle.sh_sharding.specs.declared.shardings.Dimension.{Dimension};
+ghost use Rattle.sh_sharding.specs.Sharding.{ShardingValue};
+ghost use Rattle.sh_plan.specs.declared.plans.Plan.{Plan};
+ghost use Rattle.sh_plan.specs.Costs.{IsCostByLengths};
+ghost use Rattle.sh_plan.specs.Plans.{IsCertificate, IsLeast, IsPair, Reaches};
+
+/// What a device receives in a move, counted index by index, is the number of cells of its part
+/// afterwards, less the number of those that lay in its part before: products over the dimensions of
+/// the lengths of two intervals and of what they have in common.
+pub fn cost_law()
+    ensures { (g : List ℕ) (before after : List Dimension) → IsCostByLengths g before after }
+{}
+
+/// A plan with a certificate leads from source to target, and no list of moves costs less.
+pub fn certificate_law()
+    ensures { (from to : ShardingValue) (p : Plan) → IsCertificate from to p → IsLeast from to p }
+{}
+
+/// From each sharding some moves lead to each other sharding of its shape on its grid: all dimensions
+/// are gathered, and then split as the target's. What they cost is below the greatest number of 64
+/// bits.
+pub fn reach_law()
+    ensures { (from to : ShardingValue) → IsPair from to → Reaches from to }
+{}
