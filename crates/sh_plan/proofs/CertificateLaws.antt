@@ -13,7 +13,7 @@ use Rattle.sh_ways.specs.Graph.{IsPotential}
 use Rattle.sh_ways.proofs.Least.{certified}
 use Rattle.sh_plan.specs.declared.plans.Distance.{Distance}
 use Rattle.sh_plan.specs.declared.plans.Plan.{Plan}
-use Rattle.sh_plan.specs.Plans.{IsCertificate, IsCovered, IsLeast, IsListed, IsRising, reshards_to, state_of}
+use Rattle.sh_plan.specs.Plans.{HasState, IsCertificate, IsLeast, IsListed, IsRising, reshards_to, state_of}
 
 own : (o : Ordering) → o ≡ ordering_reverse o → o ≡ Equal
 own Less e = cc
@@ -50,15 +50,15 @@ one_number g table rising ds n k a b =
 potential : (from to : ShardingValue) (p : Plan) → IsCertificate from to p → IsPotential (reshards_to to) (IsListed p.table) (state_of to)
 potential from to p c = record {
   covered = λ ds n m listed has.
-      let by : IsCovered p.table ((reshards_to to).to ds m) n ((reshards_to to).cost ds m) = c.covered ds n m listed has in
-      record { next = by.next; there = by.listed; within = by.within };
-  zero_at = λ n listed. one_number to.grid.extents p.table c.rising (state_of to) n 0 listed c.target;
+      let there : HasState p.table ((reshards_to to).to ds m) = c.closed ds m (record { number = n; listed = listed }) has in
+      record { next = there.number; there = there.listed; within = c.below ds n m there.number listed has there.listed };
+  zero_at = λ n listed. one_number to.grid.extents p.table c.rising (state_of to) n 0 listed c.zero_at;
 }
 
 pub least : (from to : ShardingValue) (p : Plan) → IsCertificate from to p → IsLeast from to p
 least from to p c = record {
   leads = c.leads;
   sum = c.sum;
-  dist = certified (reshards_to to) (IsListed p.table) (state_of from) (state_of to) p.cost (potential from to p c) c.source
+  dist = certified (reshards_to to) (IsListed p.table) (state_of from) (state_of to) p.cost (potential from to p c) c.distance
       (record { way = p.moves; leads = c.leads; sum = c.sum });
 }

@@ -59,28 +59,36 @@ pub record IsListed (table : List Distance) (ds : List Dimension) (n : ℕ) : Ty
   pub state : entry.sharding.dimensions ≡ ds
   pub number : entry.cost ≡ n
 
--- a state with a number is listed, and this number is at most the cost to get there and that number
-pub record IsCovered (table : List Distance) (ds : List Dimension) (n cost : ℕ) : Type 0 where
-  pub next : ℕ
-  pub listed : IsListed table ds next
-  pub within : n ≤ cost + next
+-- the table has this state
+pub record HasState (table : List Distance) (ds : List Dimension) : Type 0 where
+  pub number : ℕ
+  pub listed : IsListed table ds number
 
--- each move from an entry leads to an entry, and doesn't undercut its number
-abbrev pub AllCovered : ShardingValue → List Distance → Type 0
-AllCovered to table =
-    (ds : List Dimension) (n : ℕ) (m : Move) → IsListed table ds n →
-    Contains ((reshards_to to).moves ds) m →
-    IsCovered table ((reshards_to to).to ds m) n ((reshards_to to).cost ds m)
+-- each move from an entry leads to an entry
+abbrev pub IsClosed : ShardingValue → List Distance → Type 0
+IsClosed to table =
+    (ds : List Dimension) (m : Move) → HasState table ds → Contains ((reshards_to to).moves ds) m →
+    HasState table ((reshards_to to).to ds m)
+
+-- the number at an entry is at most the cost of each move from there and the number where it leads
+abbrev pub IsNotUndercut : ShardingValue → List Distance → Type 0
+IsNotUndercut to table =
+    (ds : List Dimension) (n : ℕ) (m : Move) (next : ℕ) → IsListed table ds n →
+    Contains ((reshards_to to).moves ds) m → IsListed table ((reshards_to to).to ds m) next →
+    n ≤ (reshards_to to).cost ds m + next
 
 -- A plan's table is a certificate for it.
 pub record IsCertificate (from to : ShardingValue) (p : Plan) : Type 0 where
   pub halo_free : All (λ e. HasNoHalos e.sharding.dimensions) p.table
   pub rising : IsRising to.grid.extents p.table
-  pub source : IsListed p.table (state_of from) p.cost
-  pub target : IsListed p.table (state_of to) 0
-  pub covered : AllCovered to p.table
+  pub source : HasState p.table (state_of from)
+  pub target : HasState p.table (state_of to)
+  pub closed : IsClosed to p.table
+  pub zero_at : IsListed p.table (state_of to) 0
+  pub below : IsNotUndercut to p.table
   pub leads : Leads (reshards_to to) (state_of from) p.moves (state_of to)
   pub sum : total (reshards_to to) (state_of from) p.moves ≡ p.cost
+  pub distance : IsListed p.table (state_of from) p.cost
   pub flags : HasFlags from to p
 
 -- ---- what holds of all shardings of one shape on one grid
