@@ -1,0 +1,3 @@
+mod Backwards
+mod Behind
+mod OneReading

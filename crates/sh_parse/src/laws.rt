@@ -1,0 +1,8 @@
+ghost use Rattle.std.specs.Prelude.{◌≡◌, ℕ, List};
+ghost use Rattle.sh_ir.specs.declared.modules.Module.{Module};
+ghost use Rattle.sh_parse.specs.Reads.{Reads};
+
+/// The law that a text stands for at most one module.
+pub fn one_module()
+    ensures { (text : List ℕ) (m n : Module) → Reads text m → Reads text n → m ≡ n }
+{}

@@ -1,0 +1,29 @@
+//! What the text of a module stands for.
+#![tactic(auto)]
+
+mod arith_forms;
+mod boxed;
+mod item_forms;
+mod laws;
+mod list_forms;
+mod literals;
+mod operation_forms;
+mod parts;
+mod readings;
+mod regions;
+mod rests;
+mod row;
+mod shard_forms;
+mod sides;
+mod structured_forms;
+mod tensor_forms;
+mod words;
+
+pub use boxed::Boxed;
+pub use laws::one_module;
+pub use literals::{Element, Literal, Nested};
+pub use parts::{
+    Alias, Arith, BodyTail, Combiner, Contents, Device, Mark, Operands, Part, RightSide,
+    StructuredName,
+};
+pub use rests::Rest;

@@ -1,0 +1,2 @@
+//! Texts and the modules that they stand for.
+#![tactic(auto)]
