@@ -5,8 +5,8 @@ use sh_base::{Duplicate, Items, Same};
 use sh_grid::Grid;
 use sh_ir::Dim;
 use sh_sharding::{
-    Sharding, compare, dimensions, from_dimensions, grid, halo, is_admitted, is_even, local_extent,
-    offset, part_count, rank, same, views_of, without_halos,
+    Dimension, Dimensions, Sharding, compare, dimensions, from_dimensions, grid, halo, is_admitted,
+    is_even, local_extent, offset, part_count, rank, same, views_of, without_halos,
 };
 use std::alloc::Global;
 use std::cmp::Ordering;
@@ -97,16 +97,24 @@ fn copies_and_drops_halos(rt: HostRuntime) -> Result<(), Fail> {
     Ok(())
 }
 
+/// Copies of dimensions.
+fn copies(alloc: Global, dimensions: &[Dimension]) -> Result<Dimensions, Fail>
+    ensures { IfOk result (λ copies. copies ≡ dimensions.now) }
+{
+    let mut copies = Items::new(alloc);
+    for dimension in dimensions {
+        copies.push(dimension.duplicate(alloc)?)?;
+    }
+    Ok(copies)
+}
+
 /// A sharding made again from its grid and its dimensions.
 fn made_again(alloc: Global, s: &Sharding) -> Result<Sharding, Fail>
     ensures { IfOk result (λ again. again ≡ s.now) }
 {
     let _admitted = rank(s);
     let grid = grid(s).duplicate(alloc)?;
-    let mut copies = Items::new(alloc);
-    for dimension in dimensions(s) {
-        copies.push(dimension.duplicate(alloc)?)?;
-    }
+    let copies = copies(alloc, dimensions(s))?;
     Ok(from_dimensions(alloc, grid, copies))
 }
 
