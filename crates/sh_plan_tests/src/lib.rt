@@ -1,0 +1,12 @@
+//! The tests of `sh_plan` on pairs of shardings from lines of text: each call with its whole answer.
+#![tactic(auto)]
+
+#[cfg(test)]
+mod allowed;
+#[cfg(test)]
+mod costs;
+mod named;
+mod pairs;
+
+pub use named::is_named;
+pub use pairs::{Pair, read_pair};

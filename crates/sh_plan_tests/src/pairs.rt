@@ -1,0 +1,43 @@
+ghost use Rattle.std.specs.Prelude.{◌≡◌, ◌↔◌, IfOk, IsTrue, length};
+ghost use Rattle.sh_sharding.specs.Sharding.{whole_of};
+
+use sh_base::Same;
+use sh_sharding::{Sharding, grid, whole};
+use sh_sharding_tests::{Unread, admit_example};
+use std::alloc::Global;
+
+/// Two shardings of one shape on one grid.
+#[derive(Drop)]
+pub struct Pair {
+    pub from: Sharding,
+    pub to: Sharding,
+}
+
+fn share_grid(a: &Sharding, b: &Sharding) -> bool
+    ensures { IsTrue result ↔ (a.now.grid ≡ b.now.grid) }
+{
+    grid(a).same(grid(b))
+}
+
+fn share_whole(a: &Sharding, b: &Sharding) -> bool
+    ensures { IsTrue result ↔ (whole_of a.now ≡ whole_of b.now) }
+{
+    whole(a).same(whole(b))
+}
+
+/// The shardings of two examples that are admitted, on equal grids and of equal shapes.
+pub fn read_pair(alloc: Global, from: &str, to: &str) -> Result<Pair, Unread>
+    ensures grid { IfOk result (λ pair. pair.from.grid ≡ pair.to.grid) }
+    ensures whole { IfOk result (λ pair. whole_of pair.from ≡ whole_of pair.to) }
+    ensures rank { IfOk result (λ pair. length pair.from.dimensions ≡ length pair.to.dimensions) }
+{
+    let from = admit_example(alloc, from)?.sharding;
+    let to = admit_example(alloc, to)?.sharding;
+    if !share_grid(&from, &to) {
+        return Err(Unread::Text("two grids"));
+    }
+    if !share_whole(&from, &to) {
+        return Err(Unread::Text("two shapes"));
+    }
+    Ok(Pair { from, to })
+}
