@@ -10,3 +10,5 @@ pub mod Reaches
 mod CostSteps
 mod MoveSteps
 mod CandidateSteps
+mod MovedSteps
+mod SplitSteps

@@ -1,8 +1,9 @@
 -- What decides whether a move may be made: used axes, and divisibility once an axis more splits a dimension.
-use Rattle.std.proofs.Common.{◌≡◌, ◌∙◌, ℕ, ◌-◌, ◌*◌, ◌%◌, ◌<◌, ◌≤◌, ◌==◌, Bool, true, ◌&&◌, ◌||◌, List, [], ◌∷◌, ◌++◌, length, get_or, ap, sym, refl, arith}
+use Rattle.std.proofs.Common.{Bool, List, [], ap, arith, get_or, length, refl, sym, take, true, ℕ, ◌%◌, ◌&&◌, ◌*◌, ◌++◌, ◌+◌, ◌-◌, ◌<◌, ◌==◌, ◌||◌, ◌∙◌, ◌∷◌, ◌≡◌, ◌≤◌}
 use Rattle.std.specs.List.{list_any}
 use Rattle.std.proofs.Math.Nat.{mul-le-mul}
 use Rattle.std.proofs.lemmas.List.Folds.{list_any-append}
+use Rattle.std.proofs.lemmas.List.{take_all, take_more}
 use Rattle.sh_base.specs.Shape.{cell_count}
 use Rattle.sh_grid.specs.Grid.{AreAxesOf, IsGrid, group_size_of, max_devices, on_axes}
 use Rattle.sh_grid.proofs.GroupLaws.{on_axes-append}
@@ -52,3 +53,7 @@ pub last_within : (g : List ℕ) (d : Dimension) → AreAxesOf (length g) d.axes
 last_within g d axes split =
     let some = some_split d.axes split in
     AreAxesOf-at (length g) d.axes (length d.axes - 1) axes (omega (arith, some))
+
+-- a list of axes is its front and the last one
+pub last_apart : (axes : List ℕ) → 0 < length axes → axes ≡ take (length axes - 1) axes ++ get_or axes (length axes - 1) 0 ∷ []
+last_apart axes some = sym (take_all (length axes - 1 + 1) axes (omega arith)) ∙ take_more axes (length axes - 1) 0 (omega arith)

@@ -100,7 +100,7 @@ towards_few g t s (inl e) = rw e (omega arith)
 towards_few g t s (inr (Begun even k h e)) = rw e (let long : length (take k t.axes) ≡ k = length-take-le k t.axes (omega arith) in omega arith)
 towards_few g t s (inr (Waits uneven e)) = rw e (omega arith)
 
-listed_front : (a k : ℕ) (xs : List ℕ) → is_listed a xs ≡ false → is_listed a (take k xs) ≡ false
+pub listed_front : (a k : ℕ) (xs : List ℕ) → is_listed a xs ≡ false → is_listed a (take k xs) ≡ false
 listed_front a zero xs h = refl
 listed_front a (suc k) [] h = refl
 listed_front a (suc k) (x ∷ xs) h =

@@ -106,3 +106,6 @@ moves_from s to = moves_at s.grid.extents to.dimensions s.dimensions
 
 abbrev pub IsNamedAt : ShardingValue → Move → Type 0
 IsNamedAt s m = IsNamed (length s.grid.extents) (length s.dimensions) m
+
+abbrev pub moved : ShardingValue → ShardingValue → Move → ShardingValue
+moved s to m = record s { dimensions = after to.dimensions s.dimensions m }

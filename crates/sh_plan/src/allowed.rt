@@ -57,7 +57,7 @@ fn is_even_with(s: &Sharding, dim: u64, axis: u64) -> bool
 }
 
 /// The axis that splits a dimension innermost; 0 where it isn't split.
-fn last_axis_along(s: &Sharding, dim: u64) -> u64
+pub(crate) fn last_axis_along(s: &Sharding, dim: u64) -> u64
     requires { dim < length s.now.dimensions }
     ensures value { result ≡ last_axis (dimension_of s.now dim) }
     ensures within { is_split (dimension_of s.now dim) ≡ true → result < length s.now.grid.extents }
