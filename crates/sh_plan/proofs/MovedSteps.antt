@@ -1,7 +1,8 @@
 -- What lets a move be made: the sharding that it leads to is an admitted one without halos.
-use Rattle.std.proofs.Common.{zero, suc, ◌≡◌, ◌≢◌, ◌∙◌, ◌⊎◌, ℕ, ◌+◌, ◌-◌, ◌<◌, ◌≤◌, ◌==◌, Bool, true, false, not, ◌&&◌, ◌||◌, List, [], ◌∷◌, ◌++◌, length, take, set, get_or, ap, sym, refl, arith, inl, inr}
+use Rattle.std.proofs.Common.{zero, suc, ◌≡◌, ◌≢◌, ◌∙◌, ◌⊎◌, ℕ, ◌+◌, ◌-◌, ◌<◌, ◌≤◌, ◌==◌, Bool, true, false, not, ◌&&◌, ◌||◌, List, [], ◌∷◌, ◌++◌, length, take, set, get_or, Result, IfOk, ap, sym, subst, refl, arith, inl, inr}
 use Rattle.std.specs.List.{AllZip}
 use Rattle.std.proofs.lemmas.List.{get_or-set_same}
+use Rattle.std.proofs.lemmas.Result.{IfOk-weaker}
 use Rattle.sh_grid.specs.Grid.{AreAxesOf, IsNoneOf}
 use Rattle.sh_sharding.specs.declared.shardings.Dimension.{Dimension}
 use Rattle.sh_sharding.specs.declared.shardings.Mark.TheVariants.{Balanced}
@@ -76,3 +77,7 @@ free_then rank ds i axes own within split =
     unused rank ds (set ds i (without_last (at ds i))) i (last_axis (at ds i))
     (within_set ds i (without_last (at ds i)) (λ a h. listed_front a (length (at ds i).axes - 1) (at ds i).axes h)) axes
     (listed_at (at ds i).axes (length (at ds i).axes - 1) (omega (arith, some))) (rw there gone)
+
+-- what is made is such a sharding where the value that it must be is one
+pub made_state : {E : Type 0} (r : Result ShardingValue E) (s : ShardingValue) → IsState s → IfOk r (λ made. made ≡ s) → IfOk r IsState
+made_state r s state made = IfOk-weaker r (λ x. x ≡ s) IsState (λ x e. subst IsState (sym e) state) made

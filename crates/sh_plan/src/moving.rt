@@ -98,7 +98,8 @@ fn with_last_axis(alloc: Global, d: &Dimension, axis: u64) -> Dimension
 fn gathered(alloc: Global, s: &Sharding, dim: u64) -> Result<Sharding, Mem>
     requires dim { dim < length s.now.dimensions }
     requires state { IsState s.now }
-    ensures { IfOk result (λ made. made ≡ with_dimension s.now dim (unsplit (dimension_of s.now dim).extent)) }
+    ensures value { IfOk result (λ made. made ≡ with_dimension s.now dim (unsplit (dimension_of s.now dim).extent)) }
+    ensures state { IfOk result (λ made. IsState made) }
 {
     let d = whole_dimension(alloc, dimension(s, dim).extent);
     with_other(alloc, s, dim, d)
@@ -109,7 +110,8 @@ fn dropped(alloc: Global, s: &Sharding, dim: u64) -> Result<Sharding, Mem>
     requires dim { dim < length s.now.dimensions }
     requires state { IsState s.now }
     requires even { is_even s.now.grid.extents (dimension_of s.now dim) ≡ true }
-    ensures { IfOk result (λ made. made ≡ with_dimension s.now dim (without_last (dimension_of s.now dim))) }
+    ensures value { IfOk result (λ made. made ≡ with_dimension s.now dim (without_last (dimension_of s.now dim))) }
+    ensures state { IfOk result (λ made. IsState made) }
 {
     let d = without_last_axis(alloc, dimension(s, dim));
     with_other(alloc, s, dim, d)
@@ -122,7 +124,8 @@ fn grown(alloc: Global, s: &Sharding, dim: u64, axis: u64) -> Result<Sharding, M
     requires state { IsState s.now }
     requires unused { is_listed axis (axes_of s.now.dimensions) ≡ false }
     requires may { may_append s.now.grid.extents s.now.dimensions dim axis ≡ true }
-    ensures { IfOk result (λ made. made ≡ with_dimension s.now dim (with_axis (dimension_of s.now dim) axis)) }
+    ensures value { IfOk result (λ made. made ≡ with_dimension s.now dim (with_axis (dimension_of s.now dim) axis)) }
+    ensures state { IfOk result (λ made. IsState made) }
 {
     let d = with_last_axis(alloc, dimension(s, dim), axis);
     with_other(alloc, s, dim, d)
@@ -135,7 +138,8 @@ fn gone_over(alloc: Global, s: &Sharding, from: u64, to: u64) -> Result<Sharding
     requires to { to < length s.now.dimensions }
     requires state { IsState s.now }
     requires may { may s.now.grid.extents [] s.now.dimensions (M3 from to) ≡ true }
-    ensures { IfOk result (λ made. made ≡ record s.now { dimensions = after [] s.now.dimensions (M3 from to) }) }
+    ensures value { IfOk result (λ made. made ≡ record s.now { dimensions = after [] s.now.dimensions (M3 from to) }) }
+    ensures state { IfOk result (λ made. IsState made) }
 {
     let axis = last_axis_along(s, from);
     let shorter = dropped(alloc, s, from)?;
@@ -150,7 +154,8 @@ fn split_as(alloc: Global, s: &Sharding, to: &Sharding, dim: u64) -> Result<Shar
     requires grid { s.now.grid ≡ to.now.grid }
     requires whole { whole_of s.now ≡ whole_of to.now }
     requires may { may_be s.now to.now (M5 dim) ≡ true }
-    ensures { IfOk result (λ made. made ≡ with_dimension s.now dim (dimension_of to.now dim)) }
+    ensures value { IfOk result (λ made. made ≡ with_dimension s.now dim (dimension_of to.now dim)) }
+    ensures state { IfOk result (λ made. IsState made) }
 {
     let d = dimension(to, dim).duplicate(alloc)?;
     with_other(alloc, s, dim, d)
@@ -168,7 +173,8 @@ pub fn moved(alloc: Global, s: &Sharding, to: &Sharding, m: Move) -> Result<Shar
     requires whole { whole_of s.now ≡ whole_of to.now }
     requires named { IsNamedAt s.now m }
     requires may { may_be s.now to.now m ≡ true }
-    ensures { IfOk result (λ made. made ≡ moved s.now to.now m) }
+    ensures value { IfOk result (λ made. made ≡ moved s.now to.now m) }
+    ensures state { IfOk result (λ made. IsState made) }
 {
     match m {
         Move::M1 { d } => dropped(alloc, s, d),

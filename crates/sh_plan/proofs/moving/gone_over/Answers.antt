@@ -23,5 +23,5 @@ grown-requires-clause-unused c =
     let own : AreAxesOf (length c.args.s.now.grid.extents) (at c.args.s.now.dimensions c.args.from).axes =
     all_at (λ d. AreAxesOf (length c.args.s.now.grid.extents) d.axes) c.args.s.now.dimensions c.args.from
     (axes_of-each (length c.args.s.now.grid.extents) c.args.s.now.dimensions axes) c.requires.from in
-    rw (c.last_axis_along-axis.ensures.value, c.in_ok-shorter.ensures)
+    rw (c.last_axis_along-axis.ensures.value, c.in_ok-shorter.ensures.value)
     (free_then (length c.args.s.now.grid.extents) c.args.s.now.dimensions c.args.from axes own c.requires.from (even_is c.args.s.now.grid.extents (at c.args.s.now.dimensions c.args.from) even).split)
