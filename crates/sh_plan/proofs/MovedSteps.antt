@@ -1,5 +1,5 @@
 -- What lets a move be made: the sharding that it leads to is an admitted one without halos.
-use Rattle.std.proofs.Common.{zero, suc, ◌≡◌, ◌≢◌, ◌∙◌, ◌⊎◌, ℕ, ◌+◌, ◌-◌, ◌<◌, ◌≤◌, ◌==◌, Bool, true, false, not, ◌&&◌, ◌||◌, List, [], ◌∷◌, ◌++◌, length, take, set, get_or, Result, IfOk, ap, sym, subst, refl, arith, inl, inr}
+use Rattle.std.proofs.Common.{zero, suc, ◌≡◌, ℕ, ◌-◌, ◌<◌, ◌==◌, Bool, true, false, not, ◌||◌, List, [], ◌∷◌, length, take, set, Result, IfOk, sym, subst, refl, arith, inl, inr}
 use Rattle.std.specs.List.{AllZip}
 use Rattle.std.proofs.lemmas.List.{get_or-set_same}
 use Rattle.std.proofs.lemmas.Result.{IfOk-weaker}
@@ -8,7 +8,7 @@ use Rattle.sh_sharding.specs.declared.shardings.Dimension.{Dimension}
 use Rattle.sh_sharding.specs.declared.shardings.Mark.TheVariants.{Balanced}
 use Rattle.sh_sharding.specs.Made.{IsEvenOrWhole, IsState, with_dimension}
 use Rattle.sh_sharding.specs.Sharding.{ShardingValue, axes_of, dimension_of, is_even, is_split, unsplit}
-use Rattle.sh_sharding.proofs.Cases.{and_left, and_right, same_or_not}
+use Rattle.sh_sharding.proofs.Cases.{and_left, and_right}
 use Rattle.sh_sharding.proofs.MadeLaws.{states_stay}
 use Rattle.sh_plan.specs.Moves.{at, is_even_or_unsplit, is_listed, last_axis, may_append, with_axis, without_last}
 use Rattle.sh_plan.proofs.MoveSteps.{last_apart}

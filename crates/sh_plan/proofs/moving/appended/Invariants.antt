@@ -1,4 +1,4 @@
-use Rattle.std.proofs.Common.{◌≡◌, ◌++◌, ◌-◌, length, take, replicate}
+use Rattle.std.proofs.Common.{◌≡◌, ◌++◌, ◌-◌, take, replicate}
 use Rattle.sh_base.specs.Shape.{max_rank}
 use Rattle.sh_plan.proofs.moving.appended.Given as goal
 
