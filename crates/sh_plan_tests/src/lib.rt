@@ -5,8 +5,10 @@
 mod allowed;
 #[cfg(test)]
 mod costs;
+#[cfg(test)]
+mod moved;
 mod named;
 mod pairs;
 
 pub use named::is_named;
-pub use pairs::{Pair, read_pair};
+pub use pairs::{Pair, read_pair, read_state};

@@ -1,12 +1,13 @@
 ghost use Rattle.std.specs.Prelude.{◌≡◌, ◌↔◌, IfOk, IsTrue, length};
+ghost use Rattle.sh_sharding.specs.Made.{IsState};
 ghost use Rattle.sh_sharding.specs.Sharding.{whole_of};
 
 use sh_base::Same;
-use sh_sharding::{Sharding, grid, whole};
+use sh_sharding::{Sharding, grid, rank, whole, without_halos};
 use sh_sharding_tests::{Unread, admit_example};
 use std::alloc::Global;
 
-/// Two shardings of one shape on one grid.
+/// Two shardings without halos, of one shape on one grid.
 #[derive(Drop)]
 pub struct Pair {
     pub from: Sharding,
@@ -25,14 +26,28 @@ fn share_whole(a: &Sharding, b: &Sharding) -> bool
     whole(a).same(whole(b))
 }
 
-/// The shardings of two examples that are admitted, on equal grids and of equal shapes.
+/// The sharding of an example that is admitted, without its halos.
+#[tactic(auto, using(sh_sharding::proofs::MadeLaws::made_plain))]
+pub fn read_state(alloc: Global, line: &str) -> Result<Sharding, Unread>
+    ensures { IfOk result (λ state. IsState state) }
+{
+    let sharded = admit_example(alloc, line)?;
+    let _admitted = rank(&sharded.sharding);
+    let state = without_halos(alloc, &sharded.sharding)?;
+    Ok(state)
+}
+
+/// The shardings of two examples that are admitted, on equal grids and of equal shapes, without their
+/// halos.
 pub fn read_pair(alloc: Global, from: &str, to: &str) -> Result<Pair, Unread>
+    ensures from { IfOk result (λ pair. IsState pair.from) }
+    ensures to { IfOk result (λ pair. IsState pair.to) }
     ensures grid { IfOk result (λ pair. pair.from.grid ≡ pair.to.grid) }
     ensures whole { IfOk result (λ pair. whole_of pair.from ≡ whole_of pair.to) }
     ensures rank { IfOk result (λ pair. length pair.from.dimensions ≡ length pair.to.dimensions) }
 {
-    let from = admit_example(alloc, from)?.sharding;
-    let to = admit_example(alloc, to)?.sharding;
+    let from = read_state(alloc, from)?;
+    let to = read_state(alloc, to)?;
     if !share_grid(&from, &to) {
         return Err(Unread::Text("two grids"));
     }
