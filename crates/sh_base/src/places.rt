@@ -1,15 +1,16 @@
 use crate::Rule;
 
-/// Where a thing stands in a text: line and column count from 1, columns in bytes.
-#[derive(Clone, Copy, Debug, PartialEq, Eq)]
+/// Where a thing stands in a text: line and column count from 1, columns in bytes. Places are
+/// ordered as they come in the text.
+#[derive(Clone, Copy, Debug, PartialEq, Eq, PartialOrd, Ord)]
 pub struct Place {
     pub line: u32,
     pub column: u32,
 }
 
-/// A broken rule and the place at which it breaks.
-#[derive(Clone, Copy, Debug, PartialEq, Eq)]
+/// A place and the rule that breaks at it. Refusals are ordered by place, at one place by rule.
+#[derive(Clone, Copy, Debug, PartialEq, Eq, PartialOrd, Ord)]
 pub struct Refusal {
-    pub rule: Rule,
     pub place: Place,
+    pub rule: Rule,
 }

@@ -4,7 +4,7 @@ ghost use Rattle.sh_base.specs.Rules.{code_of};
 /// The code of a rule, as error lines print it. `B` is said of bytes, `P` of tokens, `L` of limits,
 /// `V` of verification, `A` of the admission of shardings, `C` of call items, `N` of annotation,
 /// `U` of undefined source programs, `E` of device programs and `K` of traces.
-#[derive(Clone, Copy, Debug, PartialEq, Eq)]
+#[derive(Clone, Copy, Debug, PartialEq, Eq, PartialOrd, Ord)]
 pub enum Rule {
     /// No token begins with this byte.
     B1,
