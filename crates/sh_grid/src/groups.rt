@@ -46,7 +46,7 @@ fn moved(extents: &[u64], axis: u64, device: u64, coordinate: u64) -> u64
 
 /// How many devices a group along a list of axes has. The list may be empty; a group is then one
 /// device.
-pub fn group_size(g: &Grid, axes: &Shape) -> u64
+pub fn size_along(g: &Grid, axes: &[u64]) -> u64
     requires { AreAxesOf (length g.now.extents) axes.now }
     ensures value { result ≡ group_size_of g.now.extents axes.now }
     ensures some { 0 < result }
@@ -54,10 +54,20 @@ pub fn group_size(g: &Grid, axes: &Shape) -> u64
 {
     let extents = extents(g).extents();
     let mut size = 1;
-    for axis in axes.extents() {
+    for axis in axes {
         size *= extents[*axis as usize];
     }
     size
+}
+
+/// The same for axes that are held as a shape.
+pub fn group_size(g: &Grid, axes: &Shape) -> u64
+    requires { AreAxesOf (length g.now.extents) axes.now }
+    ensures value { result ≡ group_size_of g.now.extents axes.now }
+    ensures some { 0 < result }
+    ensures few { result ≤ max_devices }
+{
+    size_along(g, axes.extents())
 }
 
 /// The place of a device in its group along a list of axes, the first listed axis outermost.

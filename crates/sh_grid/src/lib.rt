@@ -10,5 +10,5 @@ mod groups;
 mod laws;
 
 pub use grids::{Grid, MAX_AXES, MAX_DEVICES, coords, devices, extents, make, name};
-pub use groups::{group_size, member, place_in_group};
+pub use groups::{group_size, member, place_in_group, size_along};
 pub use laws::group_laws;

@@ -2,7 +2,7 @@ use Rattle.std.proofs.Common.{arith, rules}
 use Rattle.std.proofs.lemmas.Grind.{common_steps}
 use Rattle.sh_grid.specs.Grid.{group_size_of, on_axes}
 use Rattle.sh_grid.proofs.GroupSteps.{size_step, size_end}
-use Rattle.sh_grid.proofs.groups.group_size.Goals as goal
+use Rattle.sh_grid.proofs.groups.size_along.Goals as goal
 
 pub loop-axis-init : goal.loop-axis-init
 unfolding group_size_of on_axes
