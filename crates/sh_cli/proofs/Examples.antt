@@ -20,7 +20,8 @@ use Rattle.sh_tensor.specs.Tensor.{TensorValue, at, cells_of}
 use Rattle.sh_grid.specs.Grid.{GridValue, place_in, group_size_of, on_axes}
 use Rattle.sh_int.specs.Elements.{element_of}
 use Rattle.sh_sharding.specs.Carried.{cuts_of, grid_named}
-use Rattle.sh_sharding.specs.Admission.{mark_of, offset_count, halo_count}
+use Rattle.sh_sharding.specs.HaloSizes.{halo_count}
+use Rattle.sh_sharding.specs.OffsetLists.{mark_of, offset_count}
 use Rattle.sh_sharding.specs.Cut.{cut_of}
 use Rattle.sh_sharding.specs.Sharding.{offset_of, parts_of, part_of, offset_at, part_size, size_of_part, start_in, size_in, local_extent, offsets_of}
 use Rattle.sh_sharding.specs.LocalTypes.{part_sizes, local_dim}

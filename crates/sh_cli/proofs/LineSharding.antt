@@ -19,7 +19,10 @@ use Rattle.sh_sharding.specs.LocalTypes.{IsLocalDim, local_dim}
 use Rattle.sh_sharding.proofs.LocalTypeLaws.{are_local_dims}
 use Rattle.sh_sharding.proofs.PartLaws.{part_of-below}
 use Rattle.sh_grid.specs.Grid.{GridValue, IsGrid, group_size_of, on_axes}
-use Rattle.sh_sharding.specs.Admission.{sharding_of, mark_of, offset_count, halo_count, HalosFit, IsAdmitted, IsBelow, Keeps}
+use Rattle.sh_sharding.specs.Admission.{sharding_of, IsAdmitted, Keeps}
+use Rattle.sh_sharding.specs.AxisLists.{IsBelow}
+use Rattle.sh_sharding.specs.HaloSizes.{halo_count, HalosFit}
+use Rattle.sh_sharding.specs.OffsetLists.{mark_of, offset_count}
 use Rattle.sh_sharding.specs.Sharding.{ShardingValue, IsSharding, IsDimension, IsDivided, HasNoHalos, parts_of, part_of, part_size, size_of_part, offset_of, offset_at, size_in, local_extent, local_shape, counted_cells, unsplit}
 use Rattle.sh_sharding.specs.declared.shardings.Dimension.{Dimension}
 use Rattle.sh_sharding.specs.declared.shardings.Mark.TheVariants.{Balanced}

@@ -17,8 +17,8 @@ use Rattle.sh_sharding.specs.Sharding.{ShardingValue, whole_of, unsplit, counted
 use Rattle.sh_sharding.specs.Normal.{Division, division_of, normal_form, IsSame}
 use Rattle.sh_sharding.specs.Spelling.{raw_of}
 use Rattle.sh_sharding.specs.Laws.{IsWritten, AdmissionLaws, EqualityLaws}
-use Rattle.sh_sharding.proofs.AdmittedLaws.{no_axes}
-use Rattle.sh_sharding.proofs.AdmitLaws.{is_sharding}
+use Rattle.sh_sharding.proofs.WrittenLaws.{no_axes}
+use Rattle.sh_sharding.proofs.AdmissionLaws.{is_sharding}
 use Rattle.sh_sharding.proofs.MadeLaws.{made_plain, in_order, states_stay}
 use Rattle.sh_sharding.proofs.NormalLaws.{or_parts, some_split, none_split}
 use Rattle.sh_sharding.proofs.OrderLaws.{total_order, same_place}

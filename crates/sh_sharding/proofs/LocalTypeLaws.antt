@@ -6,7 +6,7 @@ use Rattle.std.proofs.lemmas.Bool.Decides.{nat_tests}
 use Rattle.std.proofs.lemmas.List.FromFn.{get_or-map-range_with_len, length-map-range_with_len}
 use Rattle.std.proofs.lemmas.List.Folds.{list_all_at}
 use Rattle.sh_base.proofs.IndexLaws.{cell_count-some}
-use Rattle.sh_grid.specs.Grid.{IsGrid, AreAxesOf, group_size_of, member_of}
+use Rattle.sh_grid.specs.Grid.{GridValue, IsGrid, AreAxesOf, group_size_of, member_of}
 use Rattle.sh_grid.proofs.GroupLaws.{member_of-below, place_in-member_of}
 use Rattle.sh_ir.specs.declared.types.Dim.TheVariants.{Known, Differs}
 use Rattle.sh_sharding.specs.declared.shardings.Dimension.{Dimension}
@@ -126,6 +126,11 @@ known_extent g d p size view seen ok h =
       low = omega arith;
       high = omega arith;
     }
+
+-- the same where the division is read through the grid that the sharding lends
+pub known_through : (own lent : GridValue) (d : Dimension) (p size : ℕ) (view : MarkView) → lent ≡ own → IsSeen lent.extents d p view → IsDimension own.extents d → IsCommonSize d.extent p (mark_in d.extent p view) size
+    → IsKnown own.extents d size
+known_through own lent d p size view e seen ok h = known_extent own.extents d p size view (subst (λ (g : GridValue). IsSeen g.extents d p view) e seen) ok h
 
 pub other_extent : (g : List ℕ) (d : Dimension) (p : ℕ) (view : MarkView) → IsSeen g d p view → HasOtherSize d.extent p (mark_in d.extent p view) → Differs ≡ local_dim g d
 other_extent g d p view seen h =

@@ -12,7 +12,7 @@ use Rattle.sh_sharding.specs.declared.shardings.Dimension.{Dimension}
 use Rattle.sh_sharding.specs.Sharding.{ShardingValue, parts_of, size_in, local_extent, axes_of, unsplit, dimension_of, counted_cells, is_split, is_even, HasNoHalos, IsDivided, IsNormalMark, IsDimension, IsSharding}
 use Rattle.sh_sharding.specs.Made.{plain, without_halos, IsPlain, IsInOrder, IsState, with_dimension, IsEvenOrWhole, StatesStay}
 use Rattle.sh_sharding.proofs.AxisListLaws.{count-append, axes_below, listed_once, distinct_axes}
-use Rattle.sh_sharding.proofs.DivisionLaws.{some_parts}
+use Rattle.sh_sharding.proofs.HaloSizeLaws.{some_parts}
 use Rattle.sh_sharding.proofs.EvenLaws.{even_dimension, is_even_dimension, group_size_of-push, divides_front}
 use Rattle.sh_sharding.proofs.MarkLaws.{balanced_divided}
 use Rattle.sh_sharding.proofs.PartLaws.{IsPlaced, are_placed, axes_of-each}

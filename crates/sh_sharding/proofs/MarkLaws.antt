@@ -14,7 +14,8 @@ use Rattle.std.proofs.lemmas.List.FromFn.{get_or-map-range_with_len, length-map-
 use Rattle.sh_sharding.specs.declared.shardings.Mark.{Mark}
 use Rattle.sh_sharding.specs.declared.shardings.Mark.TheVariants.{Balanced, Offsets}
 use Rattle.sh_sharding.specs.Sharding.{offset_of, offsets_of, IsDivided, IsNormalMark}
-use Rattle.sh_sharding.specs.Admission.{natural, IsBelow, AreOffsets, normal_mark, mark_of}
+use Rattle.sh_sharding.specs.AxisLists.{natural, IsBelow}
+use Rattle.sh_sharding.specs.OffsetLists.{AreOffsets, normal_mark, mark_of}
 use Rattle.sh_sharding.specs.Views.{IsBetween}
 use Rattle.sh_sharding.proofs.Cases.{and_left, and_right, same_or_not}
 

@@ -14,7 +14,7 @@ use Rattle.std.proofs.lemmas.List.{length-drop}
 use Rattle.std.proofs.lemmas.List.FromFn.{length-map-range_with_len}
 use Rattle.sh_grid.specs.Grid.{group_size_of}
 use Rattle.sh_sharding.specs.declared.views.DimensionView.{DimensionView}
-use Rattle.sh_sharding.specs.Admission.{mark_of}
+use Rattle.sh_sharding.specs.OffsetLists.{mark_of}
 use Rattle.sh_sharding.specs.Made.{IsState}
 use Rattle.sh_sharding.specs.Sharding.{ShardingValue, offset_of, offsets_of, parts_of, whole_of, HasNoHalos, IsDimension}
 use Rattle.sh_sharding.specs.Views.{axes_in, described, mark_in, AreOwnViews}

@@ -10,7 +10,7 @@ use Rattle.sh_sharding.specs.declared.shardings.Dimension.{Dimension}
 use Rattle.sh_sharding.specs.declared.views.DimensionView.{DimensionView}
 use Rattle.sh_sharding.specs.Sharding.{parts_of, largest_local, IsMarked}
 use Rattle.sh_sharding.specs.Views.{axes_in, mark_in, described, largest_described, IsDividing, IsOrdered, IsShort, IsViewOf, AreViewsOf, IsOwnView, AreOwnViews}
-use Rattle.sh_sharding.proofs.DivisionLaws.{some_parts}
+use Rattle.sh_sharding.proofs.HaloSizeLaws.{some_parts}
 use Rattle.sh_sharding.proofs.ViewLaws.{is_shown}
 
 -- no number of a dimension is large

@@ -1,16 +1,15 @@
 -- Each index of the whole has exactly one owner in each group, and what the cuts hold for it.
-use Rattle.std.proofs.Common.{◌≡◌, ℕ, zero, suc, ◌+◌, ◌-◌, ◌<◌, ◌≤◌, inl, inr, List, [], ◌∷◌, ◌++◌, length, get_or, map, sum, Bool, true, refl, ap, ap₂, sym, ◌∙◌, arith, subst}
+use Rattle.std.proofs.Common.{◌≡◌, ℕ, zero, suc, ◌+◌, ◌-◌, ◌<◌, ◌≤◌, inl, inr, List, [], ◌∷◌, ◌++◌, length, map, sum, Bool, true, refl, ap, ap₂, sym, ◌∙◌, arith, subst}
 use Rattle.std.specs.List.{AllByRecursion, range_with_len}
 use Rattle.std.specs.Prelude.{nat_le, nat_lt, ◌&&◌, if◌then◌else◌}
 use Rattle.std.proofs.lemmas.Bool.Decides.{nat_tests}
-use Rattle.std.proofs.lemmas.List.{map-append}
 use Rattle.std.proofs.lemmas.List.FromFn.{sum_by-map-range_with_len_more}
 use Rattle.sh_base.specs.declared.numbers.Cell.TheVariants.{Undef}
 use Rattle.sh_base.specs.Shape.{cell_count, IsIndexOf, flat_of, unflat_of}
 use Rattle.sh_base.proofs.ShapeLaws.{unflat_of-within, unflat_of-flat_of, flat_of-unflat_of, flat_of-below}
 use Rattle.sh_base.proofs.IndexLaws.{cell_count-some}
 use Rattle.sh_grid.specs.Grid.{AreAxesOf, on_axes, place_in, group_size_of, member_of}
-use Rattle.sh_grid.proofs.GroupLaws.{IsIndexOf-on_axes, place_in-flat_of, member_of-below, place_in-member_of}
+use Rattle.sh_grid.proofs.GroupLaws.{on_axes-append, IsIndexOf-on_axes, place_in-flat_of, member_of-below, place_in-member_of}
 use Rattle.sh_tensor.specs.Tensor.{TensorValue, at}
 use Rattle.sh_tensor.proofs.TensorLaws.{tensor_ext}
 use Rattle.sh_sharding.specs.declared.shardings.Dimension.{Dimension}
@@ -57,10 +56,6 @@ part_only g d x p q h lp lq pf pt qf qt = elim (lt_or_le p q) [
 ]
 
 -- ---- coordinates on the axes of all dimensions
-
-pub on_axes-append : (xs ys i : List ℕ) → on_axes (xs ++ ys) i ≡ on_axes xs i ++ on_axes ys i
-unfolding on_axes
-on_axes-append xs ys i = map-append (λ a. get_or i a 0) xs ys
 
 pub IsIndexOf-append : (s r i j : List ℕ) → IsIndexOf s i → IsIndexOf r j → IsIndexOf (s ++ r) (i ++ j)
 IsIndexOf-append [] r [] j h k = k

@@ -5,7 +5,7 @@ use Rattle.std.proofs.lemmas.List.{get_or_read}
 use Rattle.std.proofs.lemmas.Nat.{mul-le}
 use Rattle.std.proofs.Math.Nat.{mul-le-mul_left, mul-le-mul_right}
 use Rattle.sh_base.specs.Shape.{cell_count, max_cells}
-use Rattle.sh_grid.specs.Grid.{IsGrid, IsNoneOf, AreAxesOf, group_size_of, place_in}
+use Rattle.sh_grid.specs.Grid.{IsGrid, IsNoneOf, AreAxesOf, group_size_of, place_in, max_devices}
 use Rattle.sh_grid.proofs.GroupLaws.{place_in-below}
 use Rattle.sh_sharding.specs.declared.shardings.Mark.{Mark}
 use Rattle.sh_sharding.specs.declared.views.MarkView.{MarkView}
@@ -134,7 +134,7 @@ read_dimension s dim d ok l e =
 
 -- ---- what the code computes
 
-pub is_seen : (g : List ℕ) (d : Dimension) (p : ℕ) (view : MarkView) → IsDivided d.extent (parts_of g d) d.mark → IsNormalMark d.extent (parts_of g d) d.mark → p ≡ group_size_of g d.axes → 0 < p → p ≤ 1024 → IsMarkView view d.mark
+pub is_seen : (g : List ℕ) (d : Dimension) (p : ℕ) (view : MarkView) → IsDivided d.extent (parts_of g d) d.mark → IsNormalMark d.extent (parts_of g d) d.mark → p ≡ group_size_of g d.axes → 0 < p → p ≤ max_devices → IsMarkView view d.mark
     → IsSeen g d p view
 unfolding parts_of offset_at part_size
 is_seen g d p view divided normal e some few shown =

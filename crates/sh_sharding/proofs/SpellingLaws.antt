@@ -15,14 +15,17 @@ use Rattle.sh_sharding.specs.declared.shardings.Mark.{Mark}
 use Rattle.sh_sharding.specs.declared.shardings.Mark.TheVariants.{Balanced, Offsets}
 use Rattle.sh_sharding.specs.declared.shardings.Dimension.{Dimension}
 use Rattle.sh_sharding.specs.Sharding.{ShardingValue, offsets_of, parts_of, unsplit, is_balanced_mark, axes_of, whole_of, local_shape, counted_cells, HasNoHalos, AreBalanced, IsDimension, IsSharding, is_split}
-use Rattle.sh_sharding.specs.Admission.{natural, IsBelow, IsNatural, listed_axes, listed, offset_count, halo_count, with_mark, haloed, mark_of, marked, with_halos, sharding_of, AreOffsets, AreAllOffsets, HalosFit, Keeps, IsAdmitted}
+use Rattle.sh_sharding.specs.Admission.{sharding_of, Keeps, IsAdmitted}
+use Rattle.sh_sharding.specs.AxisLists.{natural, IsBelow, IsNatural, listed_axes, listed}
+use Rattle.sh_sharding.specs.HaloSizes.{halo_count, haloed, with_halos, HalosFit}
+use Rattle.sh_sharding.specs.OffsetLists.{offset_count, with_mark, mark_of, marked, AreOffsets, AreAllOffsets}
 use Rattle.sh_sharding.specs.Normal.{up_to_last_split}
 use Rattle.sh_sharding.specs.Spelling.{split_of, has_halo, halo_sizes, halos_of, is_unbalanced, part_offsets, all_offsets_of, raw_of}
 use Rattle.sh_sharding.proofs.AxisListLaws.{listed_once}
 use Rattle.sh_sharding.proofs.PartLaws.{axes_of-each}
 use Rattle.sh_sharding.proofs.MarkLaws.{mark_of-offsets_of, natural-pos, length-offsets_of, are_offsets, mark_of-none}
-use Rattle.sh_sharding.proofs.AdmissionSteps.{halos_stay}
-use Rattle.sh_sharding.proofs.AdmittedLaws.{no_axes, marked_listed}
+use Rattle.sh_sharding.proofs.LeastRuleLaws.{halos_stay}
+use Rattle.sh_sharding.proofs.WrittenLaws.{no_axes, marked_listed}
 use Rattle.sh_sharding.proofs.NormalLaws.{or_parts, some_split, none_split, length-up_to}
 use Rattle.std.proofs.lemmas.Bool.{cases_Bool}
 use Rattle.sh_sharding.proofs.Cases.{not_both}

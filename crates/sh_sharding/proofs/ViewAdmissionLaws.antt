@@ -12,11 +12,11 @@ use Rattle.sh_grid.proofs.GroupSteps.{group_size_of-le}
 use Rattle.sh_sharding.specs.declared.shardings.Mark.TheVariants.{Balanced}
 use Rattle.sh_sharding.specs.declared.views.DimensionView.{DimensionView}
 use Rattle.sh_sharding.specs.Sharding.{parts_of, part_size, size_of_part, axes_of, counted_cells, AreBalanced, HasNoHalos, HasOneMark, IsDimension}
-use Rattle.sh_sharding.specs.Admission.{HalosFit}
+use Rattle.sh_sharding.specs.HaloSizes.{HalosFit}
 use Rattle.sh_sharding.specs.Views.{axes_in, mark_in, described, described_sharding, largest_described, viewed_axes, HasNaturals, HasFittingHalos, AreAxesBelow, IsAdmittedView, IsDividing, IsOrdered, IsShort}
 use Rattle.sh_sharding.proofs.AxisListLaws.{count-append}
-use Rattle.sh_sharding.proofs.DivisionLaws.{halo_small, some_parts}
-use Rattle.sh_sharding.proofs.LargestLaws.{cells_fit, largest_fit}
+use Rattle.sh_sharding.proofs.HaloSizeLaws.{halo_small, some_parts}
+use Rattle.sh_sharding.proofs.LocalSizeLaws.{cells_fit, largest_fit}
 use Rattle.sh_sharding.proofs.OwnViewLaws.{map-described}
 use Rattle.sh_sharding.proofs.PartLaws.{axes_of-each, extents_few}
 use Rattle.sh_sharding.proofs.ViewLaws.{is_dividing, one_part, order_naturals, order_from}

@@ -5,6 +5,7 @@ use Rattle.std.specs.List.{All}
 use Rattle.std.proofs.lemmas.List.Elements.{All-weaker, All-head, All-tail}
 use Rattle.std.proofs.lemmas.Int.{ints}
 use Rattle.std.proofs.lemmas.List.{take-take, take_all, take_more, take_more_set, length-set}
+use Rattle.sh_grid.specs.Grid.{max_devices}
 use Rattle.sh_base.specs.Shape.{max_rank}
 use Rattle.sh_sharding.specs.declared.shardings.Dimension.{Dimension}
 use Rattle.sh_sharding.specs.declared.views.AxisList.{AxisList}
@@ -12,7 +13,8 @@ use Rattle.sh_sharding.specs.declared.views.DimensionView.{DimensionView}
 use Rattle.sh_sharding.specs.declared.shardings.Mark.{Mark}
 use Rattle.sh_sharding.specs.declared.shardings.Mark.TheVariants.{Balanced, Offsets}
 use Rattle.sh_sharding.specs.Sharding.{offset_of, offsets_of, size_of_part, largest_to, IsDivided, IsNormalMark}
-use Rattle.sh_sharding.specs.Admission.{natural, IsBelow, IsNatural, AreOffsets, normal_mark, mark_of}
+use Rattle.sh_sharding.specs.AxisLists.{natural, IsBelow, IsNatural}
+use Rattle.sh_sharding.specs.OffsetLists.{AreOffsets, normal_mark, mark_of}
 use Rattle.sh_sharding.specs.Views.{axes_in, scaled, IsRising, IsViewOf, AreViewsOf, offsets_in, mark_in, IsBetween, IsDividing, IsMarkView, HasOrder, HasNaturals}
 use Rattle.sh_sharding.proofs.MarkLaws.{IsMarkOf, list_cases, offsets_fit, normal_mark-balanced, natural-pos, offsets_of-written, are_offsets, normal_mark-written, offsets_between, get_or-naturals, length-naturals, normal_mark-offset, offset_of-written, are_offsets_of, balanced_divided, listed_mark}
 use Rattle.sh_sharding.proofs.Cases.{lt_or_le}
@@ -157,7 +159,7 @@ pub record IsShown (n p : ℕ) (view : MarkView) (m : Mark) : Type 0 where
 listed_order : (n p : ℕ) (os : List ℕ) → IsDivided n p (Offsets os) → IsNormalMark n p (Offsets os) → AreOffsets n p (map pos os)
 listed_order n p os divided normal = subst (λ z. AreOffsets n p (map pos z)) (offsets_of-written n p os normal.0) (are_offsets n p (Offsets os) divided)
 
-pub is_shown : (n p : ℕ) (view : MarkView) (m : Mark) → 0 < p → p ≤ 1024 → IsDivided n p m → IsNormalMark n p m → IsMarkView view m → IsShown n p view m
+pub is_shown : (n p : ℕ) (view : MarkView) (m : Mark) → 0 < p → p ≤ max_devices → IsDivided n p m → IsNormalMark n p m → IsMarkView view m → IsShown n p view m
 is_shown n p BalancedView m some few divided normal e = record { dividing = record { some = some; few = few; order = tt }; mark = sym e }
 is_shown n p (Listed (OwnOffsets os)) m some few divided normal e =
     let divided' = subst (IsDivided n p) e divided in

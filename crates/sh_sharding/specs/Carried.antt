@@ -1,5 +1,5 @@
 -- The cuts that a function in device form carries for its arguments and results, on the grid that it names.
-use Rattle.std.specs.Prelude.{ℕ, Bool, List, [], ◌∷◌, map, nat_eq, Option, Some, None, if◌then◌else◌}
+use Rattle.std.specs.Prelude.{ℕ, List, [], ◌∷◌, map, nat_eq, Option, Some, None, if◌then◌else◌}
 use Rattle.std.specs.Cmp.Lexicographic.{pointwise}
 use Rattle.sh_grid.specs.Grid.{GridValue}
 use Rattle.sh_ir.specs.declared.functions.Cut.{Cut}
@@ -8,7 +8,8 @@ use Rattle.sh_ir.specs.declared.types.ValueType.{ValueType}
 use Rattle.sh_ir.specs.declared.types.ValueType.TheVariants.{Nothing, Scalar, Tensor, Sharding, Index}
 use Rattle.sh_ir.specs.Shapes.{shape_of}
 use Rattle.sh_tensor.specs.Tensor.{TensorValue}
-use Rattle.sh_sharding.specs.Admission.{natural, sharding_of, IsAdmitted}
+use Rattle.sh_sharding.specs.Admission.{sharding_of, IsAdmitted}
+use Rattle.sh_sharding.specs.AxisLists.{natural}
 use Rattle.sh_sharding.specs.Cut.{cut_of}
 use Rattle.sh_sharding.specs.LocalTypes.{local_dims}
 use Rattle.sh_sharding.specs.Sharding.{ShardingValue}

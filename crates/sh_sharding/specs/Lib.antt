@@ -1,5 +1,8 @@
 pub mod Sharding
 pub mod Cut
+pub mod AxisLists
+pub mod OffsetLists
+pub mod HaloSizes
 pub mod Admission
 pub mod Carried
 pub mod Windows

@@ -2,7 +2,7 @@
 use Rattle.std.specs.Prelude.{◌≡◌, ℕ, ◌+◌, ◌*◌, ◌≤◌, ◌<◌, List, [], ◌∷◌, length, map, min, take, get_or, ℤ, pos, negsuc, ◌≤ℤ◌, All}
 use Rattle.sh_base.specs.Shape.{max_cells, max_rank}
 use Rattle.std.specs.List.{AllByRecursion, flat_map}
-use Rattle.sh_grid.specs.Grid.{GridValue, AreAxesOf, group_size_of}
+use Rattle.sh_grid.specs.Grid.{GridValue, AreAxesOf, group_size_of, max_devices}
 use Rattle.sh_sharding.specs.declared.views.AxisList.{AxisList}
 use Rattle.sh_sharding.specs.declared.views.Listing.{Listing}
 use Rattle.sh_sharding.specs.declared.views.Listing.TheVariants.{Offsets as OwnOffsets, Scaled}
@@ -13,7 +13,9 @@ use Rattle.sh_sharding.specs.declared.shardings.Mark.{Mark}
 use Rattle.sh_sharding.specs.declared.shardings.Mark.TheVariants.{Balanced, Offsets}
 use Rattle.sh_sharding.specs.declared.shardings.Dimension.{Dimension}
 use Rattle.sh_sharding.specs.Sharding.{ShardingValue, offset_of, size_of_part, parts_of, offset_at, part_size, largest_local, IsSharding}
-use Rattle.sh_sharding.specs.Admission.{natural, IsNatural, AreOffsets, HalosFit, normal_mark}
+use Rattle.sh_sharding.specs.AxisLists.{natural, IsNatural}
+use Rattle.sh_sharding.specs.HaloSizes.{HalosFit}
+use Rattle.sh_sharding.specs.OffsetLists.{AreOffsets, normal_mark}
 
 -- the axes of a list that is kept by value
 unfoldable pub axes_in : AxisList → List ℕ
@@ -74,7 +76,7 @@ HasOrder extent parts (Listed listing) = AreOffsets extent parts (offsets_in lis
 
 pub record IsDividing (extent parts : ℕ) (mark : MarkView) : Type 0 where
   pub some : 0 < parts
-  pub few : parts ≤ 1024
+  pub few : parts ≤ max_devices
   pub order : HasOrder extent parts mark
 
 -- distinct axes of the grid, and offsets in order

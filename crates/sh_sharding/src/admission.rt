@@ -1,6 +1,8 @@
 ghost use Rattle.std.specs.Prelude.{◌≡◌, ◌*◌, ◌≤◌, ◌↔◌, All, IfErr, IfOk, IsTrue, OnOk, length};
 ghost use Rattle.sh_grid.specs.Grid.{IsGrid};
-ghost use Rattle.sh_sharding.specs.Admission.{IsAdmitted, IsNatural, IsRefusal, Keeps, KeepsAllButSize, KeepsHalos, KeepsLists, listed, marked, sharding_of};
+ghost use Rattle.sh_sharding.specs.Admission.{IsAdmitted, IsRefusal, Keeps, KeepsAllButSize, KeepsHalos, KeepsLists, sharding_of};
+ghost use Rattle.sh_sharding.specs.AxisLists.{IsNatural, listed};
+ghost use Rattle.sh_sharding.specs.OffsetLists.{marked};
 ghost use Rattle.sh_sharding.specs.Sharding.{counted_cells};
 ghost use Rattle.sh_base.specs.Shape.{max_cells};
 ghost use Rattle.sh_base.specs.declared.rules.Rule.TheVariants.{A5};

@@ -7,10 +7,10 @@ ghost use Rattle.sh_sharding.specs.declared.shardings.Mark.TheVariants.{Balanced
 
 use crate::axis_lists::times_listed;
 use crate::local_sizes::{is_local_small, is_whole_small};
-use crate::offsets::{are_offsets, are_parts_at_least, is_balanced, is_even_division, parts_along};
+use crate::offsets::{are_offsets, are_parts_at_least, is_balanced, is_even_division};
 use crate::{DimensionView, MarkView};
 use sh_base::MAX_RANK;
-use sh_grid::{Grid, extents};
+use sh_grid::{Grid, extents, size_along};
 
 /// Whether all axes of a list are axes of a grid with so many.
 fn are_below(axes: &[u64], rank: u64) -> bool
@@ -69,7 +69,7 @@ fn is_ordered(g: &Grid, view: &DimensionView<'_>) -> bool
     requires { AreAxesOf (length g.now.extents) (axes_in view.now.axes) }
     ensures { IsTrue result ↔ IsOrdered g.now.extents view.now }
 {
-    let parts = parts_along(g, view.axes.as_slice());
+    let parts = size_along(g, view.axes.as_slice());
     match view.mark {
         MarkView::Balanced => true,
         MarkView::Listed(listing) => are_offsets(view.extent, parts, listing),
@@ -88,7 +88,7 @@ fn has_fitting_halos(g: &Grid, view: &DimensionView<'_>) -> bool
     }
     are_parts_at_least(
         view.extent,
-        parts_along(g, axes),
+        size_along(g, axes),
         view.mark,
         u128::from(halo),
     )
@@ -99,7 +99,7 @@ fn is_balanced_view(g: &Grid, view: &DimensionView<'_>) -> bool
     requires { IsOrdered g.now.extents view.now }
     ensures { IsTrue result ↔ ((described g.now.extents view.now).mark ≡ Balanced) }
 {
-    let parts = parts_along(g, view.axes.as_slice());
+    let parts = size_along(g, view.axes.as_slice());
     is_balanced(view.extent, parts, view.mark)
 }
 
@@ -111,7 +111,7 @@ pub fn is_even_view(g: &Grid, view: &DimensionView<'_>) -> bool
 {
     let axes = view.axes.as_slice();
     !axes.is_empty()
-        && is_even_division(view.extent, parts_along(g, axes), is_balanced_view(g, view))
+        && is_even_division(view.extent, size_along(g, axes), is_balanced_view(g, view))
 }
 
 /// Whether a dimension has no halo.

@@ -1,6 +1,6 @@
 ghost use Rattle.std.specs.Prelude.{◌≡◌, ◌==◌, ◌^◌, [], ◌<◌, ◌≤◌, ◌↔◌, ℕ, All, IfOk, IsTrue, OnOk, ◌++◌, count_by, length, map, slice_index_or};
 ghost use Rattle.sh_base.specs.Shape.{max_rank};
-ghost use Rattle.sh_sharding.specs.Admission.{IsBelow, listed, listed_axes, natural};
+ghost use Rattle.sh_sharding.specs.AxisLists.{IsBelow, listed, listed_axes, natural};
 ghost use Rattle.sh_sharding.specs.Sharding.{unsplit};
 
 use crate::{Dimension, Mark};

@@ -2,7 +2,8 @@ ghost use Rattle.std.specs.Prelude.{◌≡◌, ◌*◌, ◌≤◌, ◌↔◌, po
 ghost use Rattle.std.specs.List.{AllByRecursion};
 ghost use Rattle.sh_base.specs.Shape.{max_cells};
 ghost use Rattle.sh_grid.specs.Grid.{IsGrid};
-ghost use Rattle.sh_sharding.specs.Admission.{HalosFit, IsNatural, halo_count, haloed, natural, with_halos};
+ghost use Rattle.sh_sharding.specs.AxisLists.{IsNatural, natural};
+ghost use Rattle.sh_sharding.specs.HaloSizes.{HalosFit, halo_count, haloed, with_halos};
 ghost use Rattle.sh_sharding.specs.Sharding.{IsMarked, is_split};
 
 use crate::Dimension;

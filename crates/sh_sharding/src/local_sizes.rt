@@ -4,9 +4,9 @@ ghost use Rattle.sh_sharding.specs.Sharding.{counted_cells};
 ghost use Rattle.sh_sharding.specs.Views.{IsOrdered, IsShort, largest_described};
 
 use crate::DimensionView;
-use crate::offsets::{largest_part, parts_along};
+use crate::offsets::largest_part;
 use sh_base::MAX_CELLS;
-use sh_grid::Grid;
+use sh_grid::{Grid, size_along};
 
 /// A number of cells with one dimension more, an extent of 0 being counted as 1; as one more than the
 /// limit where it is greater.
@@ -34,7 +34,7 @@ fn largest_extent(g: &Grid, view: &DimensionView<'_>) -> u64
     requires short { IsShort view.now }
     ensures { result ≡ largest_described g.now.extents view.now }
 {
-    let parts = parts_along(g, view.axes.as_slice());
+    let parts = size_along(g, view.axes.as_slice());
     view.low + largest_part(view.extent, parts, view.mark) + view.high
 }
 

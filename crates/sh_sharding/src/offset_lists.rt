@@ -1,6 +1,7 @@
 ghost use Rattle.std.specs.Prelude.{◌≡◌, ◌≢◌, false, ◌<◌, ◌≤◌, ◌↔◌, [], All, IfOk, IsTrue, MatchOption, length, map};
-ghost use Rattle.sh_grid.specs.Grid.{AreAxesOf};
-ghost use Rattle.sh_sharding.specs.Admission.{AreAllOffsets, AreOffsets, HasOffsets, mark_of, marked, natural, offset_count, with_mark};
+ghost use Rattle.sh_grid.specs.Grid.{AreAxesOf, max_devices};
+ghost use Rattle.sh_sharding.specs.AxisLists.{natural};
+ghost use Rattle.sh_sharding.specs.OffsetLists.{AreAllOffsets, AreOffsets, HasOffsets, mark_of, marked, offset_count, with_mark};
 ghost use Rattle.sh_sharding.specs.Sharding.{is_balanced_mark, is_split};
 
 use crate::axis_lists::naturals;
@@ -60,7 +61,7 @@ pub(crate) fn mark_for(
     offsets: &[i128],
 ) -> Result<Mark, Mem>
     requires some { 0 < parts }
-    requires few { parts ≤ 1024 }
+    requires few { parts ≤ max_devices }
     requires offsets { offsets.now ≢ [] → AreOffsets extent parts offsets.now }
     ensures { IfOk result (λ mark. mark ≡ mark_of extent parts (map natural offsets.now)) }
 {

@@ -1,6 +1,6 @@
 ghost use Rattle.std.specs.Prelude.{◌≡◌, ◌==◌, ◌&&◌, ◌%◌, ◌+◌, ◌<◌, ◌≤◌, ◌↔◌, ℕ, IsTrue, MatchOption, length, get_or, pos};
-ghost use Rattle.sh_grid.specs.Grid.{AreAxesOf, group_size_of};
-ghost use Rattle.sh_sharding.specs.Admission.{AreOffsets};
+ghost use Rattle.sh_grid.specs.Grid.{AreAxesOf, group_size_of, max_devices};
+ghost use Rattle.sh_sharding.specs.OffsetLists.{AreOffsets};
 ghost use Rattle.sh_sharding.specs.LocalTypes.{HasOtherSize, IsCommonSize};
 ghost use Rattle.sh_sharding.specs.Sharding.{IsDivided, IsNormalMark, largest_to, offset_of, parts_of, size_of_part};
 ghost use Rattle.sh_sharding.specs.Views.{IsBetween, IsDividing, IsRising, IsSeen, mark_in, offsets_in, scaled};
@@ -8,22 +8,7 @@ ghost use Rattle.sh_sharding.specs.declared.shardings.Mark.TheVariants.{Balanced
 
 use crate::views::mark_view;
 use crate::{Dimension, Listing, MarkView};
-use sh_grid::{Grid, extents, group_size};
-
-/// How many parts the axes make.
-pub(crate) fn parts_along(g: &Grid, axes: &[u64]) -> u64
-    requires { AreAxesOf (length g.now.extents) axes.now }
-    ensures value { result ≡ group_size_of g.now.extents axes.now }
-    ensures some { 0 < result }
-    ensures few { result ≤ 1024 }
-{
-    let extents = extents(g).extents();
-    let mut parts = 1;
-    for axis in axes {
-        parts *= extents[*axis as usize];
-    }
-    parts
-}
+use sh_grid::{Grid, group_size};
 
 /// How many parts a dimension has, and where they begin.
 #[derive(Clone, Copy)]
@@ -136,7 +121,7 @@ fn is_rising(listing: Listing<'_>, at: usize, extent: u64) -> bool
 /// Whether these are the offsets of so many parts of an extent: 0 first, none less than the one before,
 /// the extent last.
 pub(crate) fn are_offsets(extent: u64, parts: u64, listing: Listing<'_>) -> bool
-    requires { parts ≤ 1024 }
+    requires { parts ≤ max_devices }
     ensures { IsTrue result ↔ AreOffsets extent parts (offsets_in listing.entry) }
 {
     let parts = parts as usize;

@@ -4,11 +4,11 @@ ghost use Rattle.std.specs.Cmp.Lexicographic.{slice_cmp};
 ghost use Rattle.sh_sharding.specs.Order.{dimension_view_order, order_of, viewed_offsets};
 ghost use Rattle.sh_sharding.specs.Views.{IsDividing, IsOrdered, described};
 
-use crate::offsets::{offset, parts_along};
+use crate::offsets::offset;
 use crate::reading::{grid, rank};
 use crate::views::views_of;
 use crate::{DimensionView, Sharding};
-use sh_grid::Grid;
+use sh_grid::{Grid, size_along};
 use std::cmp::Ordering;
 
 /// The order of the offsets of two dimensions that have so many parts.
@@ -36,7 +36,7 @@ fn compare_dimensions(g: &Grid, a: &DimensionView<'_>, b: &DimensionView<'_>) ->
 {
     let axes = a.axes.as_slice();
     match axes.cmp(b.axes.as_slice()) {
-        Ordering::Equal => compare_offsets(parts_along(g, axes), a, b),
+        Ordering::Equal => compare_offsets(size_along(g, axes), a, b),
         apart => apart,
     }
 }

@@ -1,6 +1,6 @@
 ghost use Rattle.std.specs.Prelude.{◌≡◌, ◌<◌, ◌≤◌, All, length};
 ghost use Rattle.sh_base.specs.Shape.{max_cells};
-ghost use Rattle.sh_grid.specs.Grid.{AreAxesOf, IsGrid};
+ghost use Rattle.sh_grid.specs.Grid.{AreAxesOf, IsGrid, max_devices};
 ghost use Rattle.sh_sharding.specs.LocalTypes.{local_dim};
 ghost use Rattle.sh_sharding.specs.Sharding.{IsDimension, IsMarked, IsSharding, dimension_of, is_even, offset_at, parts_of, whole_of};
 
@@ -79,7 +79,7 @@ pub fn part_count(s: &Sharding, dim: u64) -> u64
     requires { dim < length s.now.dimensions }
     ensures value { result ≡ parts_of s.now.grid.extents (dimension_of s.now dim) }
     ensures some { 0 < result }
-    ensures few { result ≤ 1024 }
+    ensures few { result ≤ max_devices }
 {
     let dimension = dimension(s, dim);
     group_size(grid(s), &dimension.axes)

@@ -4,7 +4,7 @@ use Rattle.sh_ir.specs.declared.types.Dim.TheVariants.{Known, Differs}
 use Rattle.sh_grid.specs.Grid.{group_size_of, on_axes}
 use Rattle.sh_sharding.specs.declared.shardings.Mark.TheVariants.{Balanced, Offsets}
 use Rattle.sh_sharding.specs.Sharding.{offset_of, offsets_of, size_of_part, part_size, parts_of, unsplit, is_even, is_uneven}
-use Rattle.sh_sharding.specs.Admission.{normal_mark}
+use Rattle.sh_sharding.specs.OffsetLists.{normal_mark}
 use Rattle.sh_sharding.specs.LocalTypes.{local_dim, part_sizes}
 
 -- five indices over two devices

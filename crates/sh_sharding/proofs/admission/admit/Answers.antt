@@ -1,5 +1,5 @@
 use Rattle.std.proofs.Common.{◌∙◌}
-use Rattle.sh_sharding.proofs.AdmitLaws.{is_held}
+use Rattle.sh_sharding.proofs.AdmissionLaws.{is_held}
 use Rattle.sh_sharding.proofs.admission.admit.Goals as goal
 
 pub invariant_of-result : goal.invariant_of-result

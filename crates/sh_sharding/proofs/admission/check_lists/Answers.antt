@@ -1,5 +1,5 @@
 use Rattle.std.proofs.Common.{◌∙◌}
-use Rattle.sh_sharding.proofs.AdmissionSteps.{least_A2, least_A3, kept_lists, listed_fit}
+use Rattle.sh_sharding.proofs.LeastRuleLaws.{least_A2, least_A3, kept_lists, listed_fit}
 use Rattle.sh_sharding.proofs.admission.check_lists.Goals as goal
 
 pub are_distinct-requires : goal.are_distinct-requires

@@ -1,7 +1,8 @@
 use Rattle.std.proofs.Common.{◌∙◌, ap, sym}
-use Rattle.sh_sharding.specs.Admission.{listed, marked}
-use Rattle.sh_sharding.proofs.AdmittedLaws.{has_axes, marked_listed}
-use Rattle.sh_sharding.proofs.AdmissionSteps.{axes_asked}
+use Rattle.sh_sharding.specs.AxisLists.{listed}
+use Rattle.sh_sharding.specs.OffsetLists.{marked}
+use Rattle.sh_sharding.proofs.WrittenLaws.{has_axes, marked_listed}
+use Rattle.sh_sharding.proofs.LeastRuleLaws.{axes_asked}
 use Rattle.sh_sharding.proofs.admission.divided.Goals as goal
 
 pub listed_dimensions-requires : goal.listed_dimensions-requires

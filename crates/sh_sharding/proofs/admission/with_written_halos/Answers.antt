@@ -1,6 +1,6 @@
 use Rattle.std.proofs.Common.{◌∙◌, sym}
 use Rattle.sh_sharding.proofs.Cases.{empty_list, some_list}
-use Rattle.sh_sharding.proofs.AdmissionSteps.{kept_none, halos_stay, count_read, least_A7, counted_A7, least_A8, marked_asked, small_asked, kept_halos, misfit_read}
+use Rattle.sh_sharding.proofs.LeastRuleLaws.{kept_none, halos_stay, count_read, least_A7, counted_A7, least_A8, marked_asked, small_asked, kept_halos, misfit_read}
 use Rattle.sh_sharding.proofs.admission.with_written_halos.Goals as goal
 
 pub returns-then-is_empty-clause-kept : goal.returns-then-is_empty-clause-kept

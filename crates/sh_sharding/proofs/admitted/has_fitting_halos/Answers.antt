@@ -24,14 +24,14 @@ returns-then-is_empty c =
 pub are_parts_at_least-requires : goal.are_parts_at_least-requires
 are_parts_at_least-requires c =
     let v = c.args.view.now in
-    let parts = c.parts_along.ensures.value ∙ ap (group_size_of c.args.g.now.extents) c.as_slice-axes.ensures.value in
+    let parts = c.size_along.ensures.value ∙ ap (group_size_of c.args.g.now.extents) c.as_slice-axes.ensures.value in
     subst (λ (p : ℕ). IsDividing v.extent p v.mark) (sym parts) c.requires.dividing
 
 pub returns : goal.returns
 returns c =
     let g = c.args.g.now.extents in
     let v = c.args.view.now in
-    let parts = c.parts_along.ensures.value ∙ ap (group_size_of g) c.as_slice-axes.ensures.value in
+    let parts = c.size_along.ensures.value ∙ ap (group_size_of g) c.as_slice-axes.ensures.value in
     let halo = c.from.ensures ∙ c.max-halo.ensures in
     let some = λ (e : axes_in v.axes ≡ []). some_list c.as_slice-axes.result.now c.is_empty.result c.if-is_empty.false c.is_empty.ensures (c.as_slice-axes.ensures.value ∙ e) in
-    (λ t. split_fits g v some (fits_described g v c.parts_along.result c.from.result parts halo (c.are_parts_at_least.ensures.0 t)), λ h. c.are_parts_at_least.ensures.1 (described_fits g v c.parts_along.result c.from.result parts halo h.fit))
+    (λ t. split_fits g v some (fits_described g v c.size_along.result c.from.result parts halo (c.are_parts_at_least.ensures.0 t)), λ h. c.are_parts_at_least.ensures.1 (described_fits g v c.size_along.result c.from.result parts halo h.fit))

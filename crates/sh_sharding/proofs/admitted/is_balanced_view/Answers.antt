@@ -7,6 +7,6 @@ use Rattle.sh_sharding.proofs.admitted.is_balanced_view.Goals as goal
 pub returns : goal.returns
 returns c =
     let v = c.args.view.now in
-    let parts = c.parts_along-parts.ensures.value ∙ ap (group_size_of c.args.g.now.extents) c.as_slice.ensures.value in
+    let parts = c.size_along-parts.ensures.value ∙ ap (group_size_of c.args.g.now.extents) c.as_slice.ensures.value in
     let same = ap (λ (p : ℕ). mark_in v.extent p v.mark) parts ∙ sym (described_mark c.args.g.now.extents v) in
     (λ t. sym same ∙ c.is_balanced.ensures.0 t, λ e. c.is_balanced.ensures.1 (same ∙ e))

@@ -8,8 +8,8 @@ pub returns-then-not-is_empty : goal.returns-then-not-is_empty
 returns-then-not-is_empty c =
     let g = c.args.g.now.extents in
     let v = c.args.view.now in
-    let parts = c.parts_along.ensures.value ∙ ap (group_size_of g) c.as_slice-axes.ensures.value in
-    even_view_split g v c.parts_along.result c.is_balanced_view.result c.is_even_division.result (λ e. some_list c.as_slice-axes.result.now c.is_empty.result c.if-not-is_empty.true c.is_empty.ensures (c.as_slice-axes.ensures.value ∙ e)) parts
+    let parts = c.size_along.ensures.value ∙ ap (group_size_of g) c.as_slice-axes.ensures.value in
+    even_view_split g v c.size_along.result c.is_balanced_view.result c.is_even_division.result (λ e. some_list c.as_slice-axes.result.now c.is_empty.result c.if-not-is_empty.true c.is_empty.ensures (c.as_slice-axes.ensures.value ∙ e)) parts
     c.is_balanced_view.ensures c.is_even_division.ensures
 
 pub returns-else-not-is_empty : goal.returns-else-not-is_empty

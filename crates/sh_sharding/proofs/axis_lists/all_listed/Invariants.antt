@@ -1,5 +1,5 @@
 use Rattle.std.proofs.Common.{◌≡◌, take}
-use Rattle.sh_sharding.specs.Admission.{listed_axes}
+use Rattle.sh_sharding.specs.AxisLists.{listed_axes}
 use Rattle.sh_sharding.proofs.axis_lists.all_listed.Given as goal
 
 -- the lists so far are appended

@@ -1,5 +1,5 @@
 use Rattle.std.proofs.Common.{◌≡◌, ◌++◌, drop}
-use Rattle.sh_sharding.specs.Admission.{listed}
+use Rattle.sh_sharding.specs.AxisLists.{listed}
 use Rattle.sh_sharding.proofs.axis_lists.listed_dimensions.Given as goal
 
 -- the dimensions so far, and those to come

@@ -1,5 +1,5 @@
 use Rattle.std.proofs.Common.{◌≡◌, ◌++◌, take, map}
-use Rattle.sh_sharding.specs.Admission.{natural}
+use Rattle.sh_sharding.specs.AxisLists.{natural}
 use Rattle.sh_sharding.proofs.axis_lists.push_naturals.Given as goal
 
 -- the numbers so far are appended

@@ -1,7 +1,7 @@
 use Rattle.std.proofs.Common.{◌∙◌, ap, min, length, take, drop}
 use Rattle.std.proofs.lemmas.List.{take_min, drop_min}
-use Rattle.sh_sharding.specs.Admission.{halo_count}
-use Rattle.sh_sharding.proofs.DivisionLaws.{haloing_broken, haloing_more}
+use Rattle.sh_sharding.specs.HaloSizes.{halo_count}
+use Rattle.sh_sharding.proofs.HaloSizeLaws.{haloing_broken, haloing_more}
 use Rattle.sh_sharding.proofs.halo_sizes.haloed_dimensions.Goals as goal
 
 pub returns-in-None : goal.returns-in-None

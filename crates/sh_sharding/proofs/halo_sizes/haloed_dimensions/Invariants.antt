@@ -1,4 +1,4 @@
-use Rattle.sh_sharding.proofs.DivisionLaws.{IsHaloing}
+use Rattle.sh_sharding.proofs.HaloSizeLaws.{IsHaloing}
 use Rattle.sh_sharding.proofs.halo_sizes.haloed_dimensions.Given as goal
 
 abbrev pub invariant-loop-dimension : goal.invariant-loop-dimension

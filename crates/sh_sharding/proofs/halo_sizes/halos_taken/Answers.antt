@@ -1,5 +1,5 @@
 use Rattle.std.proofs.Common.{sym}
-use Rattle.sh_sharding.proofs.DivisionLaws.{halo_count-split, halo_count-unsplit}
+use Rattle.sh_sharding.proofs.HaloSizeLaws.{halo_count-split, halo_count-unsplit}
 use Rattle.sh_sharding.proofs.halo_sizes.halos_taken.Goals as goal
 
 pub returns-then-is_split_dimension : goal.returns-then-is_split_dimension

@@ -1,7 +1,7 @@
 use Rattle.std.proofs.Common.{◌+◌, ◌*◌, min, max, ap, ◌∙◌}
 use Rattle.sh_base.specs.Shape.{max_cells}
 use Rattle.sh_sharding.specs.Views.{largest_described}
-use Rattle.sh_sharding.proofs.LargestLaws.{counted_step}
+use Rattle.sh_sharding.proofs.LocalSizeLaws.{counted_step}
 use Rattle.sh_sharding.proofs.local_sizes.is_local_small.Goals as goal
 
 pub loop-view-preserved : goal.loop-view-preserved

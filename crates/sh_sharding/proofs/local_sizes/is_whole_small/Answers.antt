@@ -1,4 +1,4 @@
-use Rattle.sh_sharding.proofs.LargestLaws.{counted_step}
+use Rattle.sh_sharding.proofs.LocalSizeLaws.{counted_step}
 use Rattle.sh_sharding.proofs.local_sizes.is_whole_small.Goals as goal
 
 pub loop-view-preserved : goal.loop-view-preserved

@@ -1,6 +1,6 @@
 use Rattle.std.proofs.Common.{◌≡◌, List, ℤ, true, subst, sym}
-use Rattle.sh_sharding.specs.Admission.{AreOffsets}
-use Rattle.sh_sharding.proofs.DivisionLaws.{has_is}
+use Rattle.sh_sharding.specs.OffsetLists.{AreOffsets}
+use Rattle.sh_sharding.proofs.OffsetListLaws.{has_is}
 use Rattle.sh_sharding.proofs.ViewLaws.{scaled-one}
 use Rattle.sh_sharding.proofs.offset_lists.has_offsets.Goals as goal
 

@@ -1,5 +1,6 @@
 use Rattle.std.proofs.Common.{map, arith, ap, sym, subst, ◌∙◌}
-use Rattle.sh_sharding.specs.Admission.{natural, mark_of, AreOffsets}
+use Rattle.sh_sharding.specs.AxisLists.{natural}
+use Rattle.sh_sharding.specs.OffsetLists.{mark_of, AreOffsets}
 use Rattle.sh_sharding.specs.Views.{scaled}
 use Rattle.sh_sharding.specs.declared.shardings.Mark.TheVariants.{Offsets}
 use Rattle.sh_sharding.proofs.Cases.{empty_list, some_list, not_both}

@@ -1,5 +1,5 @@
 use Rattle.std.proofs.Common.{◌∙◌}
-use Rattle.sh_sharding.proofs.DivisionLaws.{asked_offsets, made_mark}
+use Rattle.sh_sharding.proofs.OffsetListLaws.{asked_offsets, made_mark}
 use Rattle.sh_sharding.proofs.offset_lists.marked_dimension.Goals as goal
 
 pub mark_for-requires-clause-offsets : goal.mark_for-requires-clause-offsets

@@ -1,4 +1,4 @@
-use Rattle.sh_sharding.proofs.DivisionLaws.{none_taken}
+use Rattle.sh_sharding.proofs.OffsetListLaws.{none_taken}
 use Rattle.sh_sharding.proofs.offset_lists.marked_dimensions.Goals as goal
 
 pub marked_dimension-requires-clause-split : goal.marked_dimension-requires-clause-split

@@ -1,4 +1,4 @@
-use Rattle.sh_sharding.proofs.DivisionLaws.{IsMarking}
+use Rattle.sh_sharding.proofs.OffsetListLaws.{IsMarking}
 use Rattle.sh_sharding.proofs.offset_lists.marked_dimensions.Given as goal
 
 abbrev pub invariant-loop-dimension : goal.invariant-loop-dimension

@@ -1,5 +1,5 @@
 use Rattle.std.proofs.Common.{sym}
-use Rattle.sh_sharding.proofs.DivisionLaws.{count_split, count_unsplit}
+use Rattle.sh_sharding.proofs.OffsetListLaws.{count_split, count_unsplit}
 use Rattle.sh_sharding.proofs.offset_lists.offsets_taken.Goals as goal
 
 pub returns-then-is_split_dimension : goal.returns-then-is_split_dimension

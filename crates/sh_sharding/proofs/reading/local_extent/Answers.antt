@@ -2,38 +2,22 @@ use Rattle.std.proofs.Common.{ap, arith, ◌∙◌, subst}
 use Rattle.sh_grid.specs.Grid.{GridValue}
 use Rattle.sh_sharding.specs.LocalTypes.{local_dim}
 use Rattle.sh_sharding.specs.Views.{IsSeen}
-use Rattle.sh_sharding.proofs.LocalTypeLaws.{known_extent, other_extent}
+use Rattle.sh_sharding.proofs.LocalTypeLaws.{known_through, other_extent}
 use Rattle.sh_sharding.proofs.reading.local_extent.Goals as goal
 
 pub overflow_add-result : goal.overflow_add-result
 overflow_add-result c =
-    let d = c.dimension-d.result.now in
-    let division = c.division_of-parts.result in
-    let seen = subst (λ (g : GridValue). IsSeen g.extents d division.parts division.mark) c.grid.ensures c.division_of-parts.ensures in
-    let known = known_extent c.args.s.now.grid.extents d division.parts c.in-Some.size division.mark seen c.dimension-d.ensures.admitted c.in-Some.ensures in
-    let small = c.dimension-d.ensures.small in
-    let low = known.low in
-    let within = known.within in
-    omega arith
+    let known = known_through c.args.s.now.grid c.grid.result.now c.dimension-d.result.now _ c.in-Some.size _ c.grid.ensures c.division_of-parts.ensures c.dimension-d.ensures.admitted c.in-Some.ensures in
+    omega (arith, c.dimension-d.ensures.small, known.low, known.within)
 
 pub overflow_add-result-in-Some : goal.overflow_add-result-in-Some
 overflow_add-result-in-Some c =
-    let d = c.dimension-d.result.now in
-    let division = c.division_of-parts.result in
-    let seen = subst (λ (g : GridValue). IsSeen g.extents d division.parts division.mark) c.grid.ensures c.division_of-parts.ensures in
-    let known = known_extent c.args.s.now.grid.extents d division.parts c.in-Some.size division.mark seen c.dimension-d.ensures.admitted c.in-Some.ensures in
-    let small = c.dimension-d.ensures.small in
-    let low = known.low in
-    let high = known.high in
-    let within = known.within in
-    omega arith
+    let known = known_through c.args.s.now.grid c.grid.result.now c.dimension-d.result.now _ c.in-Some.size _ c.grid.ensures c.division_of-parts.ensures c.dimension-d.ensures.admitted c.in-Some.ensures in
+    omega (arith, c.dimension-d.ensures.small, known.low, known.high, known.within)
 
 pub returns-in-Some : goal.returns-in-Some
 returns-in-Some c =
-    let d = c.dimension-d.result.now in
-    let division = c.division_of-parts.result in
-    let seen = subst (λ (g : GridValue). IsSeen g.extents d division.parts division.mark) c.grid.ensures c.division_of-parts.ensures in
-    let known = known_extent c.args.s.now.grid.extents d division.parts c.in-Some.size division.mark seen c.dimension-d.ensures.admitted c.in-Some.ensures in
+    let known = known_through c.args.s.now.grid c.grid.result.now c.dimension-d.result.now _ c.in-Some.size _ c.grid.ensures c.division_of-parts.ensures c.dimension-d.ensures.admitted c.in-Some.ensures in
     known.value ∙ ap (local_dim c.args.s.now.grid.extents) c.dimension-d.ensures.value
 
 pub returns-in-None : goal.returns-in-None

@@ -24,20 +24,8 @@ build-requires-clause-small c =
 pub build-requires-clause-fitting : goal.build-requires-clause-fitting
 build-requires-clause-fitting c = rw c.common_width.ensures c.in_ok-cells.ensures.fitting
 
-pub returns-clause-ok : goal.returns-clause-ok
-returns-clause-ok c =
-    let parts : List TensorValue = c.args.parts.now.items in
-    let cells : List Cell = c.in_ok-cells.cells.items in
-    let read = c.as_slice-parts.ensures.value in
-    let shape = c.shape-shape.ensures ∙ c.extents.ensures.value ∙ c.whole.ensures.value in
-    let width = c.common_width.ensures ∙ ap (λ (z : List TensorValue). (part_at z 0).width) read in
-    let made : c.build.result ≡ record { shape = whole_of c.args.s.now; width = (part_at parts 0).width; cells = cells } =
-    c.build.ensures ∙ ap₂ (λ (s : List ℕ) (w : Width). record { shape = s; width = w; cells = cells }) shape width in
-    let held = subst (λ z. AreHeld c.args.s.now z cells) read (subst (AreHeld c.args.s.now c.as_slice-parts.result.now) c.as_slice.ensures.value c.in_ok-compare.ensures.alike) in
-    together c.args.s.now parts cells c.build.result held made
-
-pub returns-clause-again : goal.returns-clause-again
-returns-clause-again c = λ t cuts.
+pub returns : goal.returns
+returns c =
     let parts : List TensorValue = c.args.parts.now.items in
     let cells : List Cell = c.in_ok-cells.cells.items in
     let read = c.as_slice-parts.ensures.value in
@@ -48,4 +36,5 @@ returns-clause-again c = λ t cuts.
     let held = subst (λ z. AreHeld c.args.s.now z cells) read (subst (AreHeld c.args.s.now c.as_slice-parts.result.now) c.as_slice.ensures.value c.in_ok-compare.ensures.alike) in
     let standing = subst (λ z. IsStanding c.args.s.now z 0 cells) read c.in_ok-cells.ensures in
     let whole = is_tensor c.args.s.now parts cells c.build.result c.whole.ensures.admitted standing made in
-    (again c.args.s.now parts t c.build.result c.whole.ensures.admitted cuts whole (together c.args.s.now parts cells c.build.result held made), tt)
+    let ok = together c.args.s.now parts cells c.build.result held made in
+    record { ok = ok; refused = tt; again = λ t cuts. (again c.args.s.now parts t c.build.result c.whole.ensures.admitted cuts whole ok, tt) }

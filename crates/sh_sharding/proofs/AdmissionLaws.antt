@@ -13,12 +13,15 @@ use Rattle.sh_sharding.specs.declared.views.DimensionView.{DimensionView}
 use Rattle.sh_sharding.specs.Views.{largest_described, IsOrdered, IsShort, AreViewsOf}
 use Rattle.sh_sharding.proofs.OwnViewLaws.{HasSmall, own_views, short_views, map-described}
 use Rattle.sh_sharding.specs.Sharding.{parts_of, local_shape, largest_local, whole_of, axes_of, counted_cells, HasNoHalos, AreBalanced, IsMarked, IsSharding, IsHeld}
-use Rattle.sh_sharding.specs.Admission.{listed, halo_count, haloed, marked, with_halos, HalosFit, sharding_of, Keeps, KeepsLists, KeepsHalos, KeepsAllButSize, IsAdmitted, IsLeastBroken}
+use Rattle.sh_sharding.specs.Admission.{sharding_of, Keeps, KeepsLists, KeepsHalos, KeepsAllButSize, IsAdmitted, IsLeastBroken}
+use Rattle.sh_sharding.specs.AxisLists.{listed}
+use Rattle.sh_sharding.specs.HaloSizes.{halo_count, haloed, with_halos, HalosFit}
+use Rattle.sh_sharding.specs.OffsetLists.{marked}
 use Rattle.sh_sharding.proofs.PartLaws.{extents_few}
-use Rattle.sh_sharding.proofs.DivisionLaws.{halo_small, some_parts}
-use Rattle.sh_sharding.proofs.AdmittedLaws.{axes-with_halos, axes-marked, extents-with_halos, extents-marked, extents-listed, has_axes, marked_whole, haloed_all, halos_none, offsets_none}
-use Rattle.sh_sharding.proofs.AdmissionSteps.{all_marked}
-use Rattle.sh_sharding.proofs.LargestLaws.{cells_fit, largest_fit}
+use Rattle.sh_sharding.proofs.HaloSizeLaws.{halo_small, some_parts}
+use Rattle.sh_sharding.proofs.WrittenLaws.{axes-with_halos, axes-marked, extents-with_halos, extents-marked, extents-listed, has_axes, marked_whole, haloed_all, halos_none, offsets_none}
+use Rattle.sh_sharding.proofs.LeastRuleLaws.{all_marked}
+use Rattle.sh_sharding.proofs.LocalSizeLaws.{cells_fit, largest_fit}
 use Rattle.sh_sharding.proofs.Cases.{none_or_some, not_both}
 
 -- ---- the dimensions with their halos
@@ -78,6 +81,12 @@ is_ready g raw s views ds h e shown =
       short = All-from_recursion IsShort views (short_views views (sharding_of g raw s).dimensions (written_small g raw s h) mine);
       largest = map-described g.extents views ∙ ap (map (largest_local g.extents)) own.value;
     }
+
+-- the same where the code counts the dimensions and then looks at as many views
+pub ready_front : (g : GridValue) (raw : RawSharding) (s : List ℕ) (views : List DimensionView) (ds : List Dimension) (count : ℕ) → KeepsAllButSize g raw s → ds ≡ (sharding_of g raw s).dimensions
+    → count ≡ length ds → AreViewsOf (take (length ds) views) ds → IsReady g raw s (take count views)
+ready_front g raw s views ds count h e counted shown =
+    is_ready g raw s (take count views) ds h e (subst (λ n. AreViewsOf (take n views) ds) (sym counted) shown)
 
 pub written_rank : (g : GridValue) (raw : RawSharding) (s : List ℕ) (ds : List Dimension) → ds ≡ (sharding_of g raw s).dimensions → length ds ≡ length s
 written_rank g raw s ds e = ap length e ∙ sym (length-map (sharding_of g raw s).dimensions (λ d. d.extent)) ∙ ap length (written_whole g raw s)

@@ -9,8 +9,11 @@ use Rattle.sh_grid.specs.Grid.{GridValue, IsGrid, AreAxesOf}
 use Rattle.sh_ir.specs.declared.types.RawSharding.{RawSharding}
 use Rattle.sh_sharding.specs.declared.shardings.Dimension.{Dimension}
 use Rattle.sh_sharding.specs.Sharding.{unsplit, counted_cells, IsMarked, is_split}
-use Rattle.sh_sharding.specs.Admission.{natural, IsBelow, listed_axes, listed, offset_count, halo_count, with_mark, haloed, marked, with_halos, IsNatural, HalosFit, sharding_of, Keeps, KeepsLists, KeepsHalos, IsLeastBroken}
-use Rattle.sh_sharding.proofs.AdmittedLaws.{listed_below, has_axes, take-nil, drop-nil, marked_balanced, marked_written, extents-marked, extents-listed}
+use Rattle.sh_sharding.specs.Admission.{sharding_of, Keeps, KeepsLists, KeepsHalos, IsLeastBroken}
+use Rattle.sh_sharding.specs.AxisLists.{natural, IsBelow, listed_axes, listed, IsNatural}
+use Rattle.sh_sharding.specs.HaloSizes.{halo_count, haloed, with_halos, HalosFit}
+use Rattle.sh_sharding.specs.OffsetLists.{offset_count, with_mark, marked}
+use Rattle.sh_sharding.proofs.WrittenLaws.{listed_below, has_axes, take-nil, drop-nil, marked_balanced, marked_written, extents-marked, extents-listed}
 use Rattle.sh_sharding.proofs.PartLaws.{extents_few}
 use Rattle.std.proofs.lemmas.List.Recursion.{is_count_by}
 use Rattle.sh_sharding.proofs.Cases.{none_or_some, not_both}

@@ -9,14 +9,18 @@ use Rattle.sh_grid.specs.Grid.{IsGrid, AreAxesOf}
 use Rattle.sh_sharding.specs.declared.shardings.Mark.TheVariants.{Balanced}
 use Rattle.sh_sharding.specs.declared.shardings.Dimension.{Dimension}
 use Rattle.sh_sharding.specs.Sharding.{parts_of, unsplit, axes_of, HasNoHalos, AreBalanced, IsMarked, IsDimension, is_split, is_split_by}
-use Rattle.sh_sharding.specs.Admission.{natural, IsBelow, listed_axes, listed, offset_count, halo_count, haloed, with_mark, mark_of, marked, with_halos, AreAllOffsets, HalosFit, KeepsLists}
+use Rattle.sh_sharding.specs.Admission.{KeepsLists}
+use Rattle.sh_sharding.specs.AxisLists.{natural, IsBelow, listed_axes, listed}
+use Rattle.sh_sharding.specs.HaloSizes.{halo_count, haloed, with_halos, HalosFit}
+use Rattle.sh_sharding.specs.OffsetLists.{offset_count, with_mark, mark_of, marked, AreAllOffsets}
 use Rattle.sh_grid.specs.Grid.{GridValue}
 use Rattle.sh_ir.specs.declared.types.RawSharding.{RawSharding}
 use Rattle.std.proofs.lemmas.List.{length-append}
 use Rattle.sh_sharding.proofs.PartLaws.{part_of-below, axes_of-each}
 use Rattle.sh_sharding.proofs.AxisListLaws.{distinct_axes, few_axes}
 use Rattle.sh_sharding.proofs.MarkLaws.{length-naturals, balanced_mark, IsMarkOf, mark_of-none, written_mark}
-use Rattle.sh_sharding.proofs.DivisionLaws.{count_unsplit, halo_count-unsplit}
+use Rattle.sh_sharding.proofs.OffsetListLaws.{count_unsplit}
+use Rattle.sh_sharding.proofs.HaloSizeLaws.{halo_count-unsplit}
 use Rattle.std.proofs.lemmas.Bool.{cases_Bool}
 
 -- ---- axes and extents stay

@@ -7,11 +7,11 @@ use Rattle.sh_base.specs.Shape.{cell_count, IsIndexOf, flat_of, unflat_of, max_c
 use Rattle.sh_base.proofs.ShapeLaws.{cell_count-append, min-mul-min, unflat_of-within, unflat_of-flat_of, flat_of-below}
 use Rattle.sh_base.proofs.IndexLaws.{cell_count-some}
 use Rattle.sh_grid.specs.Grid.{IsGrid, AreAxesOf, on_axes, group_size_of, member_of}
-use Rattle.sh_grid.proofs.GroupLaws.{IsIndexOf-on_axes, member_of-below, place_in-member_of}
+use Rattle.sh_grid.proofs.GroupLaws.{on_axes-append, IsIndexOf-on_axes, member_of-below, place_in-member_of}
 use Rattle.sh_sharding.specs.declared.shardings.Dimension.{Dimension}
 use Rattle.sh_sharding.specs.Sharding.{ShardingValue, local_shape, parts_of, part_of, part_size, size_in, local_extent, axes_of, counted_cells, largest_to, largest_local}
 use Rattle.sh_sharding.proofs.PartLaws.{part_of-below, axes_of-each}
-use Rattle.sh_sharding.proofs.OwnerLaws.{on_axes-append, IsIndexOf-append, same_front, part_of-entries, on_axes-place_in}
+use Rattle.sh_sharding.proofs.OwnerLaws.{IsIndexOf-append, same_front, part_of-entries, on_axes-place_in}
 use Rattle.sh_sharding.proofs.Cases.{below_next}
 
 -- ---- the product, step by step

@@ -1,7 +1,0 @@
-use Rattle.std.proofs.Common.{◌≡◌, take}
-use Rattle.sh_grid.specs.Grid.{group_size_of}
-use Rattle.sh_sharding.proofs.offsets.parts_along.Given as goal
-
--- the parts along the axes so far
-abbrev pub invariant-loop-axis : goal.invariant-loop-axis
-invariant-loop-axis l = l.parts ≡ group_size_of l.g.extents (take l.axis-index l.axes)
