@@ -13,6 +13,8 @@ mod examples;
 mod readings;
 mod tensors;
 mod unread;
+#[cfg(test)]
+mod views;
 
 pub use examples::{Example, Sharded, admit_example, read_example};
 pub use tensors::{all_cuts, counting, parts_with};
