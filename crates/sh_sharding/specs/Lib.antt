@@ -3,6 +3,7 @@ pub mod Cut
 pub mod AxisLists
 pub mod OffsetLists
 pub mod HaloSizes
+pub mod CutRules
 pub mod Admission
 pub mod Carried
 pub mod Windows
