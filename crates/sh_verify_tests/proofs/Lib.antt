@@ -1,0 +1,2 @@
+mod OfModules
+mod OfOperations

@@ -1,0 +1,6 @@
+//! Operations and modules that break each limit and each rule, and neighbors that don't.
+#![tactic(auto)]
+
+mod samples;
+
+pub use samples::{modules_break_rules, operations_break_rules};
