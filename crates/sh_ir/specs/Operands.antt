@@ -1,5 +1,5 @@
 -- What is asked of the types of operands besides that they are those of the values.
-use Rattle.std.specs.Prelude.{ℕ, ◌+◌, List, [], ◌∷◌, ◌++◌, Bool, true, not, ◌&&◌, ◌||◌, nat_eq, nat_lt, nat_le, length, map, sum, filter, if◌then◌else◌}
+use Rattle.std.specs.Prelude.{ℕ, ◌+◌, List, [], ◌∷◌, ◌++◌, Bool, true, false, not, ◌&&◌, ◌||◌, nat_eq, nat_lt, nat_le, length, map, sum, filter, if◌then◌else◌}
 use Rattle.std.specs.List.{list_all, list_any}
 use Rattle.std.specs.Option.{option_map_or}
 use Rattle.std.specs.Cmp.Lexicographic.{pointwise}
@@ -15,6 +15,7 @@ use Rattle.sh_ir.specs.Agreement.{same_rank_and_bits, is_tensor, dims_of, rank_o
 use Rattle.sh_ir.specs.Attributes.{numbers_fit, has_dim}
 use Rattle.sh_ir.specs.Formed.{is_scalar}
 use Rattle.sh_ir.specs.Loops.{LoopMap, Structure, identity_map, input_rank, output_rank, matmul_structure, batch_matmul_structure, matvec_structure, vecmat_structure, dot_structure, conv_1d_structure, conv_2d_structure, transpose_structure, broadcast_structure, reduce_structure}
+use Rattle.sh_ir.specs.Literals.{is_zero}
 use Rattle.sh_ir.specs.Numbers.{known_dims}
 use Rattle.sh_ir.specs.Scope.{Scope, func_item}
 use Rattle.sh_ir.specs.Shapes.{argument_types, extent_of}
@@ -47,12 +48,18 @@ abbrev pub loop_dim : List Following → ℕ → Dim
 loop_dim [] l = Differs
 loop_dim (x ∷ xs) l = if is_alone x.loops l && not (differs x.dim) then x.dim else loop_dim xs l
 
+-- a window that has no place
+abbrev pub has_no_place : List Dim → Bool
+has_no_place [] = false
+has_no_place (d ∷ []) = false
+has_no_place (window ∷ kernel ∷ ds) = is_zero window
+
 -- A dimension that sums the coordinates of loops has one cell for each sum: together the extents,
--- less one for each loop but one.
+-- less one for each loop but one. Nothing is asked of it where the window has no place.
 abbrev pub sums : List Dim → Dim → Bool
 sums ds Differs = true
 sums ds (Known n) =
-    list_any differs ds || nat_eq (n + length ds) (sum (map extent_of ds) + 1)
+    (list_any differs ds || has_no_place ds) || nat_eq (n + length ds) (sum (map extent_of ds) + 1)
 
 abbrev pub has_extent : List Following → Following → Bool
 has_extent all x = sums (map (loop_dim all) x.loops) x.dim

@@ -3,9 +3,9 @@ pub mod Cut
 pub mod AxisLists
 pub mod OffsetLists
 pub mod HaloSizes
-pub mod CutRules
 pub mod Admission
 pub mod Carried
+pub mod CutRules
 pub mod Windows
 pub mod LocalTypes
 pub mod Normal

@@ -94,7 +94,7 @@ the_values =
     value 0 (vector 4 I32) ∷ value 1 (matrix 2 4 I32) ∷ constant_value 2 (scalar I32) ∷ value 3 (vector 4 I8)
     ∷ value 4 (vector 4 I1) ∷ value 5 value_type.Sharding ∷ value 6 (open_vector I32) ∷ value 7 (matrix 2 3 I32)
     ∷ value 8 (matrix 3 4 I8) ∷ value 9 (vector 2 I32) ∷ value 10 (tensor [] I32) ∷ value 11 (vector 3 I32)
-    ∷ value 12 (vector 6 I32) ∷ value 13 (matrix 4 2 I32) ∷ []
+    ∷ value 12 (vector 6 I32) ∷ value 13 (matrix 4 2 I32) ∷ value 14 (vector 0 I32) ∷ []
 
 abbrev pub in_source : Scope
 in_source = record { grids = the_grid ∷ []; funcs = half ∷ local ∷ []; device = None; values = the_values }
@@ -271,6 +271,7 @@ structured_samples =
     ∷ breaking v3 (op_kind.Dot (ins_outs (vector 4 I1 ∷ vector 4 I8 ∷ []) (tensor [] I32))) (4 ∷ 3 ∷ 10 ∷ []) (tensor [] I32)
     ∷ sound (op_kind.Conv1d (ins_outs (vector 6 I32 ∷ vector 3 I32 ∷ []) (vector 4 I32))) (12 ∷ 11 ∷ 0 ∷ []) (vector 4 I32)
     ∷ breaking v3 (op_kind.Conv1d (ins_outs (vector 6 I32 ∷ vector 4 I32 ∷ []) (vector 4 I32))) (12 ∷ 0 ∷ 0 ∷ []) (vector 4 I32)
+    ∷ sound (op_kind.Conv1d (ins_outs (vector 6 I32 ∷ vector 3 I32 ∷ []) (vector 0 I32))) (12 ∷ 11 ∷ 14 ∷ []) (vector 0 I32)
     ∷ sound (op_kind.Transpose (record { ins_outs = ins_outs (matrix 2 4 I32 ∷ []) (matrix 4 2 I32); permutation = nums 1 0 })) (1 ∷ 13 ∷ []) (matrix 4 2 I32)
     ∷ breaking v5 (op_kind.Transpose (record { ins_outs = ins_outs (matrix 2 4 I32 ∷ []) (matrix 4 2 I32); permutation = nums 1 1 })) (1 ∷ 13 ∷ []) (matrix 4 2 I32)
     ∷ breaking v3 (op_kind.Transpose (record { ins_outs = ins_outs (matrix 2 4 I32 ∷ []) (matrix 4 2 I32); permutation = nums 0 1 })) (1 ∷ 13 ∷ []) (matrix 4 2 I32)
