@@ -1,4 +1,12 @@
-pub mod Device
-pub mod Elementwise
-pub mod Meaning
 pub mod Types
+pub mod Scalars
+pub mod Region
+pub mod Nest
+pub mod Slices
+pub mod Reshapes
+pub mod Pieces
+pub mod Given
+pub mod Collected
+pub mod Returned
+pub mod Meaning
+pub mod Steps

@@ -1,0 +1,5 @@
+mod Collectives
+pub mod Groups
+mod Layouts
+mod Samples
+mod Structured
