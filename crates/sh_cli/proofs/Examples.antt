@@ -25,9 +25,12 @@ use Rattle.sh_sharding.specs.OffsetLists.{mark_of, offset_count}
 use Rattle.sh_sharding.specs.Cut.{cut_of}
 use Rattle.sh_sharding.specs.Sharding.{offset_of, parts_of, part_of, offset_at, part_size, size_of_part, start_in, size_in, local_extent, offsets_of}
 use Rattle.sh_sharding.specs.LocalTypes.{part_sizes, local_dim}
-use Rattle.sh_sem.specs.Elementwise.{elementwise, is_stuck_somewhere}
-use Rattle.sh_sem.specs.Meaning.{means, value_of}
-use Rattle.sh_sem.specs.Device.{device_program, local_value, is_collective_at, places_returned}
+use Rattle.sh_ir.specs.Typing.{typing_of}
+use Rattle.sh_sem.specs.Given.{given, shape_given, cell_given, giving, gives_cells, built_of}
+use Rattle.sh_sem.specs.Meaning.{means, evaluated}
+use Rattle.sh_sem.specs.Scalars.{formula_cell}
+use Rattle.sh_sem.specs.Steps.{device_program, device_function, steps_on}
+use Rattle.sh_pieces.specs.Instructions.{at_instruction}
 use Rattle.sh_sem.specs.Types.{AreOfTypes, IsOfType}
 use Rattle.sh_turns.specs.Program.{Program, returned, turns}
 use Rattle.sh_turns.specs.World.{start, run, finished}
@@ -53,7 +56,7 @@ on_two_devices f arguments = device_program f (2 ∷ []) (cuts_of (line 2) (carr
 
 -- the sum wraps round: 2147483648 is the number of -2147483648
 sum_is : means (source_func 4) (left ∷ right ∷ []) ≡ Some (of_numbers (2147483648 ∷ 2 ∷ 3 ∷ 4 ∷ []) ∷ [])
-unfolding means value_of elementwise is_stuck_somewhere element_of at cells_of
+unfolding means evaluated given shape_given cell_given giving gives_cells built_of formula_cell typing_of element_of at cells_of
 sum_is = refl
 
 -- each device has its half of the sum, in two turns, in either order
@@ -64,15 +67,15 @@ ends_with_halves schedule =
     × (map (λ d. returned (on_two_devices (device_func 4 2) (left ∷ right ∷ [])) d.values) w ≡ (of_numbers (2147483648 ∷ 2 ∷ []) ∷ []) ∷ (of_numbers (3 ∷ 4 ∷ []) ∷ []) ∷ []))
 
 first_device_first : ends_with_halves (0 ∷ 1 ∷ [])
-unfolding local_value is_collective_at places_returned value_of elementwise is_stuck_somewhere element_of at cells_of cut_of start_in size_in local_extent part_size size_of_part part_of offset_at offset_of parts_of place_in group_size_of on_axes mark_of offset_count halo_count offsets_of
+unfolding device_program device_function steps_on at_instruction given shape_given cell_given giving gives_cells built_of formula_cell typing_of element_of at cells_of cut_of start_in size_in local_extent part_size size_of_part part_of offset_at offset_of parts_of place_in group_size_of on_axes mark_of offset_count halo_count offsets_of
 first_device_first = (refl, refl)
 
 last_device_first : ends_with_halves (1 ∷ 0 ∷ [])
-unfolding local_value is_collective_at places_returned value_of elementwise is_stuck_somewhere element_of at cells_of cut_of start_in size_in local_extent part_size size_of_part part_of offset_at offset_of parts_of place_in group_size_of on_axes mark_of offset_count halo_count offsets_of
+unfolding device_program device_function steps_on at_instruction given shape_given cell_given giving gives_cells built_of formula_cell typing_of element_of at cells_of cut_of start_in size_in local_extent part_size size_of_part part_of offset_at offset_of parts_of place_in group_size_of on_axes mark_of offset_count halo_count offsets_of
 last_device_first = (refl, refl)
 
 two_turns : turns (on_two_devices (device_func 4 2) (left ∷ right ∷ [])) ≡ 2
-unfolding is_collective_at
+unfolding device_program device_function steps_on at_instruction
 two_turns = refl
 
 -- ---- two wrong modules
@@ -136,14 +139,14 @@ two_numbers a b is_a is_b e = absurd (omega arith)
 
 -- the headline is false of the module that adds the first argument twice: device 0 ends with another first number
 twice_is_wrong : IsPartitioned (module_of 2 (source_func 4)) (module_of 2 twice_func) → ⊥
-unfolding local_value is_collective_at places_returned value_of elementwise is_stuck_somewhere element_of at cells_of cut_of start_in size_in local_extent part_size size_of_part part_of offset_at offset_of parts_of place_in group_size_of on_axes mark_of offset_count halo_count offsets_of
+unfolding device_program device_function steps_on at_instruction given shape_given cell_given giving gives_cells built_of formula_cell typing_of element_of at cells_of cut_of start_in size_in local_extent part_size size_of_part part_of offset_at offset_of parts_of place_in group_size_of on_axes mark_of offset_count halo_count offsets_of
 twice_is_wrong holds =
     let ran = would_run twice_func refl holds (0 ∷ 1 ∷ []) _ refl in
     two_numbers _ _ refl refl (ap first_number (ran.results refl 0 (omega arith)))
 
 -- it is false of the module with a wrong local type: the first turn is stuck
 undivided_is_wrong : IsPartitioned (module_of 2 (source_func 4)) (module_of 2 undivided_func) → ⊥
-unfolding local_value is_collective_at places_returned value_of elementwise is_stuck_somewhere element_of at cells_of cut_of start_in size_in local_extent part_size size_of_part part_of offset_at offset_of parts_of place_in group_size_of on_axes mark_of offset_count halo_count offsets_of
+unfolding device_program device_function steps_on at_instruction given shape_given cell_given giving gives_cells built_of formula_cell typing_of element_of at cells_of cut_of start_in size_in local_extent part_size size_of_part part_of offset_at offset_of parts_of place_in group_size_of on_axes mark_of offset_count halo_count offsets_of
 undivided_is_wrong holds =
     let ran = would_run undivided_func refl holds [] _ refl in
     let moves : false ≡ true = ran.no_fault 0 refl in
@@ -162,9 +165,9 @@ three_or_two : (a b : ℕ) → a ≡ 3 → b ≡ 2 → a ≡ b → ⊥
 three_or_two a b is_a is_b e = absurd (omega arith)
 
 mistyped_is_wrong : IsPartitioned (module_of 2 (source_func 4)) (module_of 2 mistyped_func) → ⊥
-unfolding local_value is_collective_at places_returned value_of elementwise is_stuck_somewhere element_of at cells_of cut_of start_in size_in local_extent part_size size_of_part part_of offset_at offset_of parts_of place_in group_size_of on_axes mark_of offset_count halo_count offsets_of part_sizes local_dim
+unfolding device_program device_function steps_on at_instruction given shape_given cell_given giving gives_cells built_of formula_cell typing_of element_of at cells_of cut_of start_in size_in local_extent part_size size_of_part part_of offset_at offset_of parts_of place_in group_size_of on_axes mark_of offset_count halo_count offsets_of part_sizes local_dim
 mistyped_is_wrong holds =
-    three_or_two _ _ refl refl (ap first_extent (is_partition mistyped_func refl holds).local.of_arguments)
+    three_or_two _ _ refl refl (ap first_extent (is_partition mistyped_func refl holds).local.args)
 
 -- nor where what is returned is written as a vector of three
 abbrev misreturned_func : Func
@@ -172,7 +175,7 @@ misreturned_func = record (device_func 4 2) { ops = defining 2 (Binary Addi) (0 
 
 misreturned_is_wrong : IsPartitioned (module_of 2 (source_func 4)) (module_of 2 misreturned_func) → ⊥
 misreturned_is_wrong holds =
-    three_or_two _ _ refl refl (ap first_extent (is_partition misreturned_func refl holds).local.of_return)
+    three_or_two _ _ refl refl (ap first_extent (is_partition misreturned_func refl holds).of_return)
 
 -- nor of the right function on another grid than the source module's
 on_three_is_wrong : IsPartitioned (module_of 2 (source_func 4)) (module_of 3 (device_func 4 2)) → ⊥

@@ -1,6 +1,6 @@
 pub mod Begins
 pub mod Decimals
-pub mod ElementwiseCut
+pub mod SumCut
 pub mod Examples
 pub mod LineSharding
 pub mod Lines

@@ -1,9 +1,7 @@
 -- The device function of the one form runs as its source function means, in every order of turns.
-use Rattle.std.proofs.Common.{ap₂, ◌≡◌, ℕ, zero, suc, ◌*◌, ◌/◌, ◌^◌, ◌<◌, true, ◌&&◌, List, [], ◌∷◌, Option, Some, None, refl, ap, sym, ◌∙◌, subst, arith, map}
-use Rattle.std.proofs.lemmas.Bool.Decides.{nat_tests}
+use Rattle.std.proofs.Common.{◌≡◌, ℕ, zero, suc, ◌*◌, ◌/◌, ◌^◌, ◌<◌, List, [], ◌∷◌, Option, Some, None, refl, ap, sym, ◌∙◌, subst, arith, map}
 use Rattle.std.specs.List.{range_with_len}
 use Rattle.std.specs.Prelude.{Contains}
-use Rattle.sh_base.specs.declared.operations.BinOp.TheVariants.{Addi}
 use Rattle.sh_base.specs.declared.numbers.Width.TheVariants.{I32}
 use Rattle.sh_ir.specs.declared.functions.Func.{Func}
 use Rattle.sh_ir.specs.declared.modules.Module.{Module}
@@ -14,24 +12,24 @@ use Rattle.sh_tensor.specs.Tensor.{TensorValue}
 use Rattle.sh_sharding.specs.Carried.{carried, cuts_of, local_type}
 use Rattle.sh_sharding.specs.Cut.{cut_of}
 use Rattle.sh_sharding.specs.Sharding.{ShardingValue, local_shape}
-use Rattle.sh_sharding.proofs.CutLaws.{shape-cut_of, width-cut_of}
-use Rattle.sh_sem.specs.Elementwise.{elementwise}
+use Rattle.sh_sharding.proofs.CutLaws.{shape-cut_of}
 use Rattle.sh_sem.specs.Meaning.{means}
-use Rattle.sh_sem.specs.Device.{checked, device_program}
-use Rattle.sh_sem.specs.Types.{AreOfTypes, has_type, have_extents, same_width}
+use Rattle.sh_sem.specs.Steps.{device_program, steps_on}
+use Rattle.sh_sem.specs.Types.{AreOfTypes}
 use Rattle.sh_turns.specs.Lockstep.{Done, lockstep}
 use Rattle.sh_turns.specs.Program.{Program}
-use Rattle.sh_pieces.specs.Right.{RunsRight}
-use Rattle.sh_cli.specs.Headline.{HasLocalTypes, IsPartition, IsPartitioned, IsRewritten, Rewrites}
+use Rattle.sh_pieces.specs.Right.{IsDoneWith, RunsRight}
+use Rattle.sh_sharding.specs.CutRules.{HasLocalTypes}
+use Rattle.sh_cli.specs.Headline.{IsPartition, IsPartitioned, IsRewritten, Rewrites}
 use Rattle.sh_cli.specs.InStep.{StepsToSum, ends_in_step, result_cuts}
 use Rattle.sh_cli.specs.Modules.{vector, whole_cut, source_func, device_func, module_of, carry_of, in_source_form, in_device_form}
 use Rattle.sh_cli.specs.VectorSum.{source_text, partitioned_text, IsVectorSum, IsDivisible, IsEvenlySplit}
 use Rattle.std.specs.Io.KnownBytes.{Appends}
 use Rattle.sh_cli.proofs.Begins.{one_rest}
 use Rattle.sh_cli.proofs.Readings.{reads_source, reads_partitioned}
-use Rattle.sh_cli.proofs.ElementwiseCut.{cut_elementwise, sum_is_there, width-elementwise}
+use Rattle.sh_cli.proofs.SumCut.{total, cut_total}
 use Rattle.sh_cli.proofs.LineSharding.{line, part_fits, line_sharding, local_type_is, is_line_sharding, local_shape_is, line_is_grid, line_is_sharding, line_is_admitted, no_halos}
-use Rattle.sh_cli.proofs.SumMeaning.{source_means, sum_of, steps_to_sums, sum_program, runs_right}
+use Rattle.sh_cli.proofs.SumMeaning.{AreSums, result_is, runs_right, source_means, steps_to_sums, sum_program}
 
 -- the sharding of each cut
 abbrev by_cut : ℕ → ℕ → ShardingValue
@@ -46,39 +44,40 @@ vector_shape extent t is = go t.shape is.0.extents
     go (n ∷ []) e = cc
     go (n ∷ m ∷ ns) e = absurd (cc)
 
--- a device's part has the local type
-part_has_type : (extent devices : ℕ) (t : TensorValue) (device : ℕ) → IsEvenlySplit extent devices → device < devices * 1 → t.width ≡ I32
-    → has_type (vector (extent / devices)) (cut_of (by_cut extent devices) t device) ≡ true
-part_has_type extent devices t device is below width =
-    let shape : (cut_of (by_cut extent devices) t device).shape ≡ (extent / devices) ∷ [] =
+-- a device's part has the local shape
+part_shape : (extent devices : ℕ) (t : TensorValue) (device : ℕ) → IsEvenlySplit extent devices → device < devices * 1
+    → (cut_of (by_cut extent devices) t device).shape ≡ (extent / devices) ∷ []
+part_shape extent devices t device is below =
     shape-cut_of (by_cut extent devices) t device
     ∙ ap (λ s. local_shape s device) (is_line_sharding extent devices)
-    ∙ local_shape_is extent devices device is below in
-    ap₂ (λ w dims. same_width I32 w && have_extents (Known (extent / devices) ∷ []) dims) (width-cut_of (by_cut extent devices) t device ∙ width) shape
-    ∙ same_extents (extent / devices)
-  where
-    same_extents : (n : ℕ) → have_extents (Known n ∷ []) (n ∷ []) ≡ true
-    same_extents n = grind (arith, nat_tests)
+    ∙ local_shape_is extent devices device is below
 
 -- the sum of the parts is the part of the sum
-part_sum : (extent devices : ℕ) (x y r : TensorValue) (device : ℕ) → IsEvenlySplit extent devices → x.shape ≡ extent ∷ [] → x.width ≡ I32 → elementwise Addi x y ≡ Some r → device < devices * 1
-    → checked (vector (extent / devices)) (elementwise Addi (cut_of (by_cut extent devices) x device) (cut_of (by_cut extent devices) y device)) ≡ Some (cut_of (by_cut extent devices) r device)
-part_sum extent devices x y r device is shape width added below =
-    let P : ShardingValue → Type 0 = λ s. elementwise Addi (cut_of s x device) (cut_of s y device) ≡ Some (cut_of s r device) in
-    let cut = subst P (sym (is_line_sharding extent devices)) (cut_elementwise (line_sharding extent devices) Addi x y r device (line_is_sharding extent devices is) (no_halos extent devices) below shape added) in
-    ap (checked (vector (extent / devices))) cut
-    ∙ passes (cut_of (by_cut extent devices) r device) (part_has_type extent devices r device is below (width-elementwise Addi x y r added ∙ width))
-  where
-    passes : (t : TensorValue) → has_type (vector (extent / devices)) t ≡ true → checked (vector (extent / devices)) (Some t) ≡ Some t
-    passes t h = rw h refl
+part_sum : (extent devices : ℕ) (x y : TensorValue) (device : ℕ) → IsEvenlySplit extent devices → device < devices * 1
+    → total ((extent / devices) ∷ []) (cut_of (by_cut extent devices) x device) (cut_of (by_cut extent devices) y device) ≡ cut_of (by_cut extent devices) (total (extent ∷ []) x y) device
+part_sum extent devices x y device is below =
+    let P : ShardingValue → Type 0 = λ s. total ((extent / devices) ∷ []) (cut_of s x device) (cut_of s y device) ≡ cut_of s (total (extent ∷ []) x y) device in
+    let cut = cut_total (line_sharding extent devices) x y device (line_is_sharding extent devices is) (no_halos extent devices) below in
+    subst P (sym (is_line_sharding extent devices))
+    (ap (λ shape. total shape (cut_of (line_sharding extent devices) x device) (cut_of (line_sharding extent devices) y device)) (sym (local_shape_is extent devices device is below)) ∙ cut)
 
 abbrev program_on : ℕ → ℕ → TensorValue → TensorValue → Program TensorValue
 program_on extent devices x y = sum_program extent (extent / devices) devices (cut_of (by_cut extent devices) x) (cut_of (by_cut extent devices) y)
 
-sum_runs : (extent devices : ℕ) (x y r : TensorValue) → IsEvenlySplit extent devices → x.shape ≡ extent ∷ [] → x.width ≡ I32 → elementwise Addi x y ≡ Some r → RunsRight (program_on extent devices x y) (λ c. cut_of (by_cut extent devices) r c ∷ [])
-sum_runs extent devices x y r is shape width added =
-    runs_right extent (extent / devices) devices (cut_of (by_cut extent devices) x) (cut_of (by_cut extent devices) y) (cut_of (by_cut extent devices) r)
-    (λ c below. part_sum extent devices x y r c is shape width added below)
+are_sums : (extent devices : ℕ) (x y : TensorValue) → IsEvenlySplit extent devices
+    → AreSums extent (extent / devices) devices (cut_of (by_cut extent devices) x) (cut_of (by_cut extent devices) y) (cut_of (by_cut extent devices) (total (extent ∷ []) x y))
+are_sums extent devices x y is = record {
+  left = λ c below. part_shape extent devices x c is below;
+  right = λ c below. part_shape extent devices y c is below;
+  sums = λ c below. part_sum extent devices x y c is below;
+}
+
+-- in step each device ends with its part of the sum, and so does every run
+sums_in_step : (extent devices : ℕ) (x y : TensorValue) → IsEvenlySplit extent devices → IsDoneWith (program_on extent devices x y) (λ c. cut_of (by_cut extent devices) (total (extent ∷ []) x y) c ∷ [])
+sums_in_step extent devices x y is = steps_to_sums extent (extent / devices) devices _ _ _ (are_sums extent devices x y is)
+
+sum_runs : (extent devices : ℕ) (x y : TensorValue) → IsEvenlySplit extent devices → RunsRight (program_on extent devices x y) (λ c. cut_of (by_cut extent devices) (total (extent ∷ []) x y) c ∷ [])
+sum_runs extent devices x y is = runs_right extent (extent / devices) devices _ _ _ (are_sums extent devices x y is)
 
 -- ---- functions
 
@@ -105,20 +104,20 @@ RunsOnCuts extent devices arguments results =
 sum_runs_on_cuts : (extent devices : ℕ) → IsEvenlySplit extent devices → (arguments results : List TensorValue) → AreOfTypes (argument_types (source_func extent)) arguments → means (source_func extent) arguments ≡ Some results → RunsOnCuts extent devices arguments results
 sum_runs_on_cuts extent devices is arguments results typed meant =
     let vectors = two_vectors extent arguments typed in
-    let sum = sum_of extent vectors.left vectors.right results (ap (means (source_func extent)) (sym vectors.both) ∙ meant) in
-    let runs : RunsOnCuts extent devices (vectors.left ∷ vectors.right ∷ []) (sum.sum ∷ []) = sum_runs extent devices vectors.left vectors.right sum.sum is vectors.shape vectors.width sum.is_sum in
-    subst (λ (r : List TensorValue). RunsOnCuts extent devices arguments r) (sym sum.is_result)
-    (subst (λ (a : List TensorValue). RunsOnCuts extent devices a (sum.sum ∷ [])) (sym vectors.both) runs)
+    let sum = total (extent ∷ []) vectors.left vectors.right in
+    let result = result_is extent vectors.left vectors.right results vectors.shape vectors.other_shape (ap (means (source_func extent)) (sym vectors.both) ∙ meant) in
+    let runs : RunsOnCuts extent devices (vectors.left ∷ vectors.right ∷ []) (sum ∷ []) = sum_runs extent devices vectors.left vectors.right is in
+    subst (λ (r : List TensorValue). RunsOnCuts extent devices arguments r) (sym result)
+    (subst (λ (a : List TensorValue). RunsOnCuts extent devices a (sum ∷ [])) (sym vectors.both) runs)
 
 -- the types of the device function are those of the parts
-has_local_types : (extent devices : ℕ) → IsEvenlySplit extent devices → HasLocalTypes (device_func extent (extent / devices)) (carry_of extent) (line devices)
+has_local_types : (extent devices : ℕ) → IsEvenlySplit extent devices → HasLocalTypes (line devices) (device_func extent (extent / devices)) (carry_of extent)
 has_local_types extent devices is =
     let here : vector (extent / devices) ≡ local_type (by_cut extent devices) (vector extent) =
     sym (ap (λ s. local_type s (vector extent)) (is_line_sharding extent devices) ∙ local_type_is extent devices is) in
     record {
-      of_arguments = ap (λ (type : ValueType). type ∷ type ∷ []) here;
-      of_results = ap (λ (type : ValueType). type ∷ []) here;
-      of_return = refl;
+      args = ap (λ (type : ValueType). type ∷ type ∷ []) here;
+      results = ap (λ (type : ValueType). type ∷ []) here;
     }
 
 pub sum_is_partition : (extent devices : ℕ) → IsEvenlySplit extent devices → IsPartition (source_func extent) (device_func extent (extent / devices)) (carry_of extent) (line devices)
@@ -132,6 +131,7 @@ sum_is_partition extent devices is =
       of_results = refl;
       admitted = ((admitted, (admitted, tt)), (admitted, tt));
       local = has_local_types extent devices is;
+      of_return = refl;
       runs = sum_runs_on_cuts extent devices is;
     }
 
@@ -191,18 +191,18 @@ sum_rewrites text out extent devices old new is divisible made appends =
 
 -- ---- running in step
 
-sums_in_step : (extent devices : ℕ) (x y r : TensorValue) → IsEvenlySplit extent devices → x.shape ≡ extent ∷ [] → x.width ≡ I32 → elementwise Addi x y ≡ Some r
-    → lockstep (program_on extent devices x y) ≡ Done (map (λ c. cut_of (by_cut extent devices) r c ∷ []) (range_with_len 0 devices))
-sums_in_step extent devices x y r is shape width added =
+ends_with_cuts : (extent devices : ℕ) (x y : TensorValue) → IsEvenlySplit extent devices
+    → lockstep (program_on extent devices x y) ≡ Done (map (λ c. cut_of (by_cut extent devices) (total (extent ∷ []) x y) c ∷ []) (range_with_len 0 devices))
+unfolding device_program steps_on
+ends_with_cuts extent devices x y is =
     let one : devices * 1 ≡ devices = omega arith in
-    steps_to_sums extent (extent / devices) devices (cut_of (by_cut extent devices) x) (cut_of (by_cut extent devices) y) (cut_of (by_cut extent devices) r)
-    (λ c below. part_sum extent devices x y r c is shape width added below)
-    ∙ ap (λ n. Done (map (λ c. cut_of (by_cut extent devices) r c ∷ []) (range_with_len 0 n))) one
+    sums_in_step extent devices x y is
+    ∙ ap (λ n. Done (map (λ c. cut_of (by_cut extent devices) (total (extent ∷ []) x y) c ∷ []) (range_with_len 0 n))) one
 
 pub sum_in_step : (extent devices : ℕ) → IsEvenlySplit extent devices → StepsToSum extent devices
 sum_in_step extent devices is = λ arguments typed.
     let vectors = two_vectors extent arguments typed in
-    let sum = sum_is_there vectors.left vectors.right (vectors.shape ∙ sym vectors.other_shape) in
-    let meant : means (source_func extent) arguments ≡ Some (sum.0 ∷ []) = ap (means (source_func extent)) vectors.both ∙ source_means extent vectors.left vectors.right (Some sum.0) sum.1 in
-    let stepped = sums_in_step extent devices vectors.left vectors.right sum.0 is vectors.shape vectors.width sum.1 in
-    (sum.0 ∷ [], meant, subst (λ (a : List TensorValue). ends_in_step extent devices a ≡ Done (result_cuts extent devices (sum.0 ∷ []))) (sym vectors.both) stepped)
+    let sum = total (extent ∷ []) vectors.left vectors.right in
+    let meant : means (source_func extent) arguments ≡ Some (sum ∷ []) = ap (means (source_func extent)) vectors.both ∙ source_means extent vectors.left vectors.right vectors.shape vectors.other_shape in
+    let stepped = ends_with_cuts extent devices vectors.left vectors.right is in
+    (sum ∷ [], meant, subst (λ (a : List TensorValue). ends_in_step extent devices a ≡ Done (result_cuts extent devices (sum ∷ []))) (sym vectors.both) stepped)

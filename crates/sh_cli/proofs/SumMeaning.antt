@@ -1,100 +1,77 @@
 -- What the source function of the one form means, and the program that its device function is.
-use Rattle.std.proofs.Common.{ap₂, ◌≡◌, ℕ, zero, suc, ◌+◌, ◌*◌, ◌<◌, true, false, List, [], ◌∷◌, Option, Some, None, refl, ap, sym, ◌∙◌, arith}
+use Rattle.std.proofs.Common.{◌≡◌, ℕ, suc, ◌*◌, ◌<◌, List, [], ◌∷◌, Some, refl, ap, sym, ◌∙◌}
 use Rattle.std.proofs.lemmas.Option.{same_Some}
-use Rattle.std.specs.List.{range_with_len}
-use Rattle.std.specs.Prelude.{filter_map, map, option_map}
-use Rattle.sh_base.specs.declared.operations.BinOp.TheVariants.{Addi}
+use Rattle.sh_ir.specs.declared.operations.Op.{Op}
+use Rattle.sh_ir.specs.Classes.{class_of}
 use Rattle.sh_tensor.specs.Tensor.{TensorValue}
-use Rattle.sh_sem.specs.Elementwise.{elementwise}
-use Rattle.sh_sem.specs.Meaning.{means, value_of}
-use Rattle.sh_sem.specs.Device.{device_program, local_value, is_collective_at, places_returned, checked}
-use Rattle.sh_turns.specs.Program.{Program, IsWellFormed, there, values_before, value, returned}
-use Rattle.sh_turns.specs.Lockstep.{Done, lockstep, results_of, HasAllValues}
-use Rattle.sh_turns.proofs.InStep.{all_results, done_where_all_there, present_of}
-use Rattle.sh_pieces.specs.Right.{RunsRight}
-use Rattle.sh_pieces.proofs.Bridge.{right_where_done}
-use Rattle.sh_cli.specs.Modules.{source_func, device_func, vector}
+use Rattle.sh_pieces.specs.Instructions.{gives}
+use Rattle.sh_pieces.specs.Laws.{IsByNames}
+use Rattle.sh_pieces.specs.Right.{IsDoneWith, RunsRight}
+use Rattle.sh_pieces.specs.Runs.{RunsToRows, argument_under, at_start}
+use Rattle.sh_pieces.proofs.Bridge.{by_names}
+use Rattle.sh_sem.specs.Given.{alone}
+use Rattle.sh_sem.specs.Meaning.{Values, after_class, evaluated, evaluated_from, means, results_of, value_in, with_own, with_value}
+use Rattle.sh_sem.specs.Steps.{device_function, device_program, steps_on}
+use Rattle.sh_sem.proofs.Groups.{has_groups}
+use Rattle.sh_turns.specs.Program.{Program}
+use Rattle.sh_cli.specs.Modules.{source_func, device_func, noted, place_at, returning}
+use Rattle.sh_cli.proofs.SumCut.{total, addition, given_sum}
 
--- ---- the source
-
-as_results : Option TensorValue → Option (List TensorValue)
-as_results o = option_map (λ r. r ∷ []) o
+-- the values before the addition
+abbrev values_before : TensorValue → TensorValue → Values
+values_before x y = with_value (Some 4) y (with_value (Some 3) x (argument_under (0 ∷ 1 ∷ []) (x ∷ y ∷ [])))
 
 -- the source function adds its arguments
-pub source_means : (extent : ℕ) (x y : TensorValue) (o : Option TensorValue) → elementwise Addi x y ≡ o → means (source_func extent) (x ∷ y ∷ []) ≡ option_map (λ r. r ∷ []) o
-unfolding means value_of
-source_means extent x y None e = rw e refl
-source_means extent x y (Some r) e = rw e refl
+pub source_means : (extent : ℕ) (x y : TensorValue) → x.shape ≡ extent ∷ [] → y.shape ≡ extent ∷ [] → means (source_func extent) (x ∷ y ∷ []) ≡ Some (total (extent ∷ []) x y ∷ [])
+unfolding means evaluated
+source_means extent x y left right =
+    let op : Op = addition 5 3 4 extent (place_at 7 5) in
+    let added : value_in op (values_before x y) ≡ Some (total (extent ∷ []) x y) = given_sum 5 3 4 extent (place_at 7 5) alone x y left right in
+    ap results_of (goes_on 3 op (noted 6 5 extent 8 ∷ returning 6 extent (place_at 9 5) ∷ []) (6 ∷ []) (values_before x y) _ (ap (with_own op (values_before x y)) added))
+  where
+    goes_on : (k : ℕ) (op : Op) (ops : List Op) (names : List ℕ) (values after : Values) → after_class (class_of op.kind) op values ≡ Some after
+        → evaluated_from k (op ∷ ops) names values ≡ evaluated_from (suc k) ops names after
+    goes_on k op ops names values after e = rw (e, evaluated_from) refl
 
 -- its results
-pub record IsSum (x y : TensorValue) (results : List TensorValue) : Type 0 where
-  pub sum : TensorValue
-  pub is_sum : elementwise Addi x y ≡ Some sum
-  pub is_result : results ≡ sum ∷ []
-
-pub sum_of : (extent : ℕ) (x y : TensorValue) (results : List TensorValue) → means (source_func extent) (x ∷ y ∷ []) ≡ Some results → IsSum x y results
-sum_of extent x y results e = go (elementwise Addi x y) refl
-  where
-    go : (o : Option TensorValue) → elementwise Addi x y ≡ o → IsSum x y results
-    go None added = absurd (let h : None ≡ Some results = sym (source_means extent x y None added) ∙ e in cc h)
-    go (Some r) added = record { sum = r; is_sum = added; is_result = sym (same_Some _ _ (sym (source_means extent x y (Some r) added) ∙ e)) }
-
--- two functions that agree on a range
-map_range : {X : Type 0} (f g : ℕ → X) (a n : ℕ) → ((c : ℕ) → c < a + n → f c ≡ g c) → map f (range_with_len a n) ≡ map g (range_with_len a n)
-map_range f g a zero same = refl
-map_range f g a (suc n) same = ap₂ (λ x xs. x ∷ xs) (same a (omega arith)) (map_range f g (a + 1) n (λ c below. same c (omega arith)))
+pub result_is : (extent : ℕ) (x y : TensorValue) (results : List TensorValue) → x.shape ≡ extent ∷ [] → y.shape ≡ extent ∷ [] → means (source_func extent) (x ∷ y ∷ []) ≡ Some results → results ≡ total (extent ∷ []) x y ∷ []
+result_is extent x y results left right meant = same_Some _ _ (sym meant ∙ source_means extent x y left right)
 
 -- ---- the device function
 
 module _ (extent local devices : ℕ) (first second : ℕ → TensorValue) where
+  abbrev pub parts : ℕ → List TensorValue
+  parts c = first c ∷ second c ∷ []
+
   abbrev pub sum_program : Program TensorValue
-  sum_program = device_program (device_func extent local) (devices ∷ []) (λ c. first c ∷ second c ∷ [])
+  sum_program = device_program (device_func extent local) (devices ∷ []) parts
 
-  no_collective : (k : ℕ) → k < 1 → is_collective_at (device_func extent local) k ≡ false
-  unfolding is_collective_at
-  no_collective zero lt = refl
-  no_collective (suc k) lt = absurd (omega arith)
+  -- the parts are vectors of the local extent, and these are their sums
+  pub record AreSums (sum : ℕ → TensorValue) : Type 0 where
+    pub left : (c : ℕ) → c < devices * 1 → (first c).shape ≡ local ∷ []
+    pub right : (c : ℕ) → c < devices * 1 → (second c).shape ≡ local ∷ []
+    pub sums : (c : ℕ) → c < devices * 1 → total (local ∷ []) (first c) (second c) ≡ sum c
 
-  well_formed : IsWellFormed sum_program
-  well_formed = record {
-    members = λ k c below device yes. absurd (let e : false ≡ true = sym (no_collective k below) ∙ yes in cc e);
-    operands = λ k c values below device yes counted. absurd (let e : false ≡ true = sym (no_collective k below) ∙ yes in cc e);
-  }
+  module _ (sum : ℕ → TensorValue) (are : AreSums sum) where
+    -- the only instruction adds the parts
+    gives_sum : (c : ℕ) → c < devices * 1 → gives (steps_on (devices ∷ [])) (addition 2 0 1 local (place_at 5 5)) (at_start (0 ∷ 1 ∷ []) parts) c ≡ Some (sum c)
+    unfolding steps_on
+    gives_sum c below =
+        given_sum 2 0 1 local (place_at 5 5) _ (first c) (second c) (are.left c below) (are.right c below)
+        ∙ ap (λ t. Some t) (are.sums c below)
 
-  -- the only instruction adds the arguments
-  adds : (c : ℕ) → local_value (device_func extent local) 0 (Some (first c) ∷ Some (second c) ∷ []) ≡ checked (vector local) (elementwise Addi (first c) (second c))
-  unfolding local_value value_of
-  adds c = refl
+    runs_to_sums : RunsToRows (steps_on (devices ∷ [])) (device_function (device_func extent local)) parts (λ c. sum c ∷ [])
+    unfolding device_function steps_on
+    runs_to_sums = ((λ c below. rw (gives_sum c below) refl, tt), λ c below. rw (gives_sum c below) refl)
 
-  first_value : (c : ℕ) → value sum_program 0 c ≡ checked (vector local) (elementwise Addi (first c) (second c))
-  first_value c = rw (no_collective 0 (omega arith)) (adds c)
-
-  returns_last : places_returned (device_func extent local) ≡ 2 ∷ []
-  unfolding places_returned
-  returns_last = refl
-
-  module _ (sum : ℕ → TensorValue) (sums : (c : ℕ) → c < devices * 1 → checked (vector local) (elementwise Addi (first c) (second c)) ≡ Some (sum c)) where
-    has_values : HasAllValues sum_program
-    has_values zero c below device = rw (first_value c ∙ sums c device) refl
-    has_values (suc k) c below device = absurd (omega arith)
-
-    values_are : (c : ℕ) → c < devices * 1 → there (first c ∷ second c ∷ sum c ∷ []) ≡ values_before sum_program 1 c
-    values_are c device = ap (λ v. Some (first c) ∷ Some (second c) ∷ v ∷ []) (sym (first_value c ∙ sums c device))
-
-    returns_sum : (c : ℕ) → returned sum_program (first c ∷ second c ∷ sum c ∷ []) ≡ sum c ∷ []
-    returns_sum c = rw returns_last refl
-
-    results_are_sums : (c : ℕ) → c < devices * 1 → results_of sum_program c ≡ sum c ∷ []
-    results_are_sums c device =
-        ap (λ vs. returned sum_program (filter_map (λ v. v) vs)) (sym (values_are c device)) ∙ ap (returned sum_program) (present_of (first c ∷ second c ∷ sum c ∷ [])) ∙ returns_sum c
+    named : IsByNames (steps_on (devices ∷ [])) (device_function (device_func extent local)) parts sum_program
+    unfolding device_program device_function
+    named = by_names (steps_on (devices ∷ [])) (device_function (device_func extent local)) parts (has_groups (devices ∷ [])) (λ c below. refl)
 
     -- in step all devices end with their sums
-    pub steps_to_sums : lockstep sum_program ≡ Done (map (λ c. sum c ∷ []) (range_with_len 0 (devices * 1)))
-    unfolding all_results
-    steps_to_sums =
-        done_where_all_there sum_program has_values
-        ∙ ap (λ rows. Done rows) (map_range (results_of sum_program) (λ c. sum c ∷ []) 0 (devices * 1) (λ c below. results_are_sums c (omega arith)))
+    pub steps_to_sums : IsDoneWith sum_program (λ c. sum c ∷ [])
+    steps_to_sums = named.results (λ c. sum c ∷ []) runs_to_sums
 
-    -- every run ends with the sums
+    -- and so does every run
     pub runs_right : RunsRight sum_program (λ c. sum c ∷ [])
-    runs_right = right_where_done sum_program (λ c. sum c ∷ []) steps_to_sums well_formed
+    runs_right = named.right (λ c. sum c ∷ []) steps_to_sums

@@ -7,18 +7,14 @@ use Rattle.sh_ir.specs.declared.functions.Func.{Func}
 use Rattle.sh_ir.specs.declared.modules.Module.{Module}
 use Rattle.sh_ir.specs.Shapes.{argument_types}
 use Rattle.sh_tensor.specs.Tensor.{TensorValue}
-use Rattle.sh_sharding.specs.Carried.{AreAdmitted, cuts_of, grid_named, grid_of, local_types}
-use Rattle.sh_sem.specs.Meaning.{means, returned_types}
-use Rattle.sh_sem.specs.Device.{device_program}
+use Rattle.sh_sharding.specs.Carried.{AreAdmitted, cuts_of, grid_named, grid_of}
+use Rattle.sh_sharding.specs.CutRules.{HasLocalTypes}
+use Rattle.sh_sem.specs.Meaning.{means}
+use Rattle.sh_sem.specs.Returned.{returned_types}
+use Rattle.sh_sem.specs.Steps.{device_program}
 use Rattle.sh_sem.specs.Types.{AreOfTypes}
 use Rattle.sh_pieces.specs.Right.{RunsRight}
 use Rattle.sh_cli.specs.Modules.{StandsFor}
-
--- The types of a function in device form are the local types of the cuts that it carries.
-pub record HasLocalTypes (written : Func) (carry : Carry) (g : GridValue) : Type 0 where
-  pub of_arguments : argument_types written ≡ local_types g carry.args
-  pub of_results : written.results ≡ local_types g carry.results
-  pub of_return : returned_types written.ops ≡ written.results
 
 -- Started on the cuts of any arguments of the source's types on which the source has a meaning, the
 -- written function leaves each device the cut of the source's results, in every order of turns.
@@ -38,7 +34,8 @@ pub record IsPartition (source written : Func) (carry : Carry) (g : GridValue) :
   pub of_arguments : map (λ cut. cut.whole) carry.args ≡ argument_types source
   pub of_results : map (λ cut. cut.whole) carry.results ≡ source.results
   pub admitted : AreAdmitted g carry.args × AreAdmitted g carry.results
-  pub local : HasLocalTypes written carry g
+  pub local : HasLocalTypes g written carry
+  pub of_return : returned_types written.ops ≡ written.results
   pub runs : RunsAsMeant source written carry g
 
 -- a partition of the function is among these functions, on the grid that it names

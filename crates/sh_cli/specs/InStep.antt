@@ -5,7 +5,7 @@ use Rattle.sh_ir.specs.Shapes.{argument_types}
 use Rattle.sh_tensor.specs.Tensor.{TensorValue}
 use Rattle.sh_sharding.specs.Carried.{cuts_of, grid_of}
 use Rattle.sh_sem.specs.Meaning.{means}
-use Rattle.sh_sem.specs.Device.{device_program}
+use Rattle.sh_sem.specs.Steps.{device_program}
 use Rattle.sh_sem.specs.Types.{AreOfTypes}
 use Rattle.sh_turns.specs.Lockstep.{Outcome, Done, lockstep}
 use Rattle.sh_cli.specs.Modules.{carry_of, device_func, line_of_devices, source_func}
