@@ -1,0 +1,4 @@
+pub mod CellLaws
+pub mod LeastLaws
+pub mod LimitLaws
+pub mod OrderLaws

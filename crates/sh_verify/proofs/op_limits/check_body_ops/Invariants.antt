@@ -1,0 +1,11 @@
+use Rattle.std.proofs.Common.{◌≡◌, drop}
+use Rattle.std.specs.Prelude.{flat_map}
+use Rattle.sh_verify.specs.Least.{by_place, least_of}
+use Rattle.sh_verify.specs.LimitFaults.{body_op_limits}
+use Rattle.sh_verify.proofs.op_limits.check_body_ops.Given as goal
+
+-- with those of the operations to come it is the least of all
+abbrev pub invariant-loop-op : goal.invariant-loop-op
+invariant-loop-op l =
+    least_of by_place l.found (flat_map body_op_limits (drop l.op-index l.ops))
+    ≡ least_of by_place l.fn.least (flat_map body_op_limits l.fn.ops)
