@@ -1,6 +1,8 @@
 //! Operations and modules that break each limit and each rule, and neighbors that don't.
 #![tactic(auto)]
 
+#[cfg(test)]
+mod grids;
 mod samples;
 
 pub use samples::{modules_break_rules, operations_break_rules};
