@@ -1,2 +1,3 @@
+mod OfCuts
 mod OfModules
 mod OfOperations

@@ -5,4 +5,4 @@
 mod grids;
 mod samples;
 
-pub use samples::{modules_break_rules, operations_break_rules};
+pub use samples::{cuts_give_local_types, modules_break_rules, operations_break_rules};

@@ -1,3 +1,4 @@
+ghost use Rattle.sh_verify_tests.specs.Cuts.{CutsRight};
 ghost use Rattle.sh_verify_tests.specs.Modules.{AreModulesRight, CountsRight, LengthsRight, module_samples};
 ghost use Rattle.sh_verify_tests.specs.Samples.{AreRight, device_samples, element_samples, in_device, in_source, layout_samples, region_samples, source_samples, structured_samples};
 
@@ -19,4 +20,10 @@ pub fn modules_break_rules()
     ensures modules { AreModulesRight module_samples }
     ensures counts { CountsRight }
     ensures lengths { LengthsRight }
+{}
+
+/// The law that the types of a function with a cut of eight cells over two devices are those of local
+/// tensors of four, that those of the whole tensor aren't, and that nothing is asked in source form.
+pub fn cuts_give_local_types()
+    ensures { CutsRight }
 {}

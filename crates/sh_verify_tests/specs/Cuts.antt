@@ -1,0 +1,22 @@
+-- Functions in device form whose types are those of the local tensors, and one whose types aren't.
+use Rattle.std.specs.Prelude.{◌≡◌, ◌≢◌, [], ◌∷◌, Some, codes}
+use Rattle.sh_base.specs.declared.numbers.Width.TheVariants.{I32}
+use Rattle.sh_grid.specs.Grid.{GridValue}
+use Rattle.sh_ir.specs.declared.functions.Carry.{Carry}
+use Rattle.sh_ir.specs.declared.functions.Func.{Func}
+use Rattle.sh_sharding.specs.Carried.{grid_of}
+use Rattle.sh_sharding.specs.CutRules.{HasLocalTypes, KeepsCuts}
+use Rattle.sh_verify_tests.specs.Modules.{device_func, eight, one_func, plain_func}
+use Rattle.sh_verify_tests.specs.Samples.{the_grid, vector}
+
+abbrev pub halves : Carry
+halves = record { grid = codes "g"; args = eight ∷ []; results = eight ∷ [] }
+
+-- its argument is the whole tensor
+abbrev pub whole_func : Func
+whole_func = record device_func { args = record { id = 0; value_type = vector 8 I32 } ∷ [] }
+
+pub record CutsRight : Type 0 where
+  pub halved : HasLocalTypes (grid_of the_grid) device_func halves
+  pub whole : ¬ HasLocalTypes (grid_of the_grid) whole_func halves
+  pub source : KeepsCuts (one_func plain_func) plain_func
