@@ -1,10 +1,8 @@
 -- What a kept rule says, of an operation and of several: the way in for whoever is given `KeepsOp`.
 use mathlib.Core.Path.{◌∙◌, ap, sym, refl}
-use mathlib.Core.Bool.{true≢false}
-use Rattle.std.proofs.Common.{◌≡◌, List, [], ◌∷◌, ◌++◌, Bool, true, false, IsTrue}
+use Rattle.std.proofs.Common.{◌≡◌, List, [], ◌∷◌, ◌++◌, Bool, true, false}
 use Rattle.std.proofs.lemmas.List.{append_assoc}
 use Rattle.std.specs.Prelude.{if◌then◌else◌}
-use Rattle.sh_base.specs.declared.places.Place.{Place}
 use Rattle.sh_base.specs.declared.places.Refusal.{Refusal}
 use Rattle.sh_base.specs.declared.rules.Rule.{Rule}
 use Rattle.sh_ir.specs.declared.operations.Op.{Op}

@@ -1,7 +1,6 @@
 -- Functions in device form whose types are those of the local tensors, and one whose types aren't.
-use Rattle.std.specs.Prelude.{◌≡◌, ◌≢◌, [], ◌∷◌, Some, codes}
+use Rattle.std.specs.Prelude.{[], ◌∷◌, codes}
 use Rattle.sh_base.specs.declared.numbers.Width.TheVariants.{I32}
-use Rattle.sh_grid.specs.Grid.{GridValue}
 use Rattle.sh_ir.specs.declared.functions.Carry.{Carry}
 use Rattle.sh_ir.specs.declared.functions.Func.{Func}
 use Rattle.sh_sharding.specs.Carried.{grid_of}
