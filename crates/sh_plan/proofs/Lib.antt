@@ -12,3 +12,7 @@ mod MoveSteps
 mod CandidateSteps
 mod MovedSteps
 mod SplitSteps
+mod Numbers
+mod EdgeRows
+mod TableSteps
+mod Searches

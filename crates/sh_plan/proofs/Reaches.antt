@@ -81,7 +81,7 @@ state_reaches from to f t same whole =
       joined (reshards to.grid.extents to.dimensions) from.dimensions (gathers.whole_of from.dimensions) to.dimensions away.cost there.cost away.way on,
     )
 
-plain_whole : (ds : List Dimension) → map (λ d. d.extent) (map plain ds) ≡ map (λ d. d.extent) ds
+pub plain_whole : (ds : List Dimension) → map (λ d. d.extent) (map plain ds) ≡ map (λ d. d.extent) ds
 plain_whole [] = refl
 plain_whole (d ∷ ds) = ap (λ (ns : List ℕ). d.extent ∷ ns) (plain_whole ds)
 

@@ -25,7 +25,7 @@ apart_of (x ∷ xs) ys h = (
   apart_of xs ys (or_right (is_listed x ys) (list_any (λ a. is_listed a ys) xs) h),
 )
 
-extent_at : (ds : List Dimension) (i : ℕ) → (at ds i).extent ≡ get_or (map (λ d. d.extent) ds) i 0
+pub extent_at : (ds : List Dimension) (i : ℕ) → (at ds i).extent ≡ get_or (map (λ d. d.extent) ds) i 0
 extent_at [] i = refl
 extent_at (d ∷ ds) zero = refl
 extent_at (d ∷ ds) (suc i) = extent_at ds i

@@ -1,3 +1,6 @@
 pub mod Moves
 pub mod Costs
 pub mod Plans
+pub mod States
+pub mod Tables
+pub mod Found

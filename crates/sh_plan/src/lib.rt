@@ -2,12 +2,16 @@
 #![tactic(auto)]
 
 mod allowed;
+mod apart;
 mod candidates;
 mod costs;
+mod exploring;
 mod laws;
 mod moves;
 mod moving;
+mod planning;
 mod plans;
+mod tables;
 
 pub use allowed::is_allowed;
 pub use candidates::allowed_moves;
@@ -15,4 +19,5 @@ pub use costs::cost;
 pub use laws::{certificate_law, cost_law, reach_law};
 pub use moves::Move;
 pub use moving::moved;
+pub use planning::plan;
 pub use plans::{Distance, Distances, Moves, Plan};
