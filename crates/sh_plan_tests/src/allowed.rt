@@ -1,5 +1,6 @@
 ghost use Rattle.std.specs.Prelude.{◌≡◌, length};
 
+use crate::shown::show_moves;
 use crate::{is_named, read_pair};
 use sh_plan::{Move, allowed_moves, is_allowed};
 use sh_sharding::Sharding;
@@ -20,36 +21,17 @@ const ALLOWED: &str = "\
 2 | 5 | 0 | | ; 2 | 5 | 0 | | ; M4 0
 2 | | | | ; 2 | | | | ; ";
 
-/// Appends a move.
-fn push_move(line: &mut String, m: Move) -> Result<(), Fail> {
-    match m {
-        Move::M1 { d } => write!(line, "M1 {d}")?,
-        Move::M2 { d, a } => write!(line, "M2 {d} {a}")?,
-        Move::M3 { d, e } => write!(line, "M3 {d} {e}")?,
-        Move::M4 { d } => write!(line, "M4 {d}")?,
-        Move::M5 { d } => write!(line, "M5 {d}")?,
-    }
-    Ok(())
-}
-
 /// The moves that may be made, in order.
-fn shown(alloc: Global, from: &str, to: &str) -> Result<String, Fail> {
+fn allowed_text(alloc: Global, from: &str, to: &str) -> Result<String, Fail> {
     let pair = read_pair(alloc, from, to)?;
     let moves = allowed_moves(alloc, &pair.from, &pair.to)?;
-    let mut line = String::new(alloc);
-    for (at, m) in moves.as_slice().iter().enumerate() {
-        if at > 0 {
-            line.push_str(", ")?;
-        }
-        push_move(&mut line, *m)?;
-    }
-    Ok(line)
+    show_moves(alloc, moves.as_slice())
 }
 
 fn assert_allowed(rt: &impl Abort, alloc: Global, row: &str) -> Result<(), Fail> {
     let (from, rest) = row.split_once(';').ok_or("no target")?;
     let (to, want) = rest.split_once(';').ok_or("no moves")?;
-    let found = shown(alloc, from, to)?;
+    let found = allowed_text(alloc, from, to)?;
     assert_eq!(rt; found.as_str(), want.trim(), "{row}");
     Ok(())
 }

@@ -9,6 +9,10 @@ mod costs;
 mod moved;
 mod named;
 mod pairs;
+#[cfg(test)]
+mod plans;
+#[cfg(test)]
+mod shown;
 
 pub use named::is_named;
-pub use pairs::{Pair, read_pair, read_state};
+pub use pairs::{Pair, read_pair, read_shardings, read_state};

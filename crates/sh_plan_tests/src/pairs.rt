@@ -1,4 +1,4 @@
-ghost use Rattle.std.specs.Prelude.{◌≡◌, ◌↔◌, IfOk, IsTrue, length};
+ghost use Rattle.std.specs.Prelude.{◌≡◌, ◌↔◌, IfOk, IsTrue, OnOk, length};
 ghost use Rattle.sh_sharding.specs.Made.{IsState};
 ghost use Rattle.sh_sharding.specs.Sharding.{whole_of};
 
@@ -7,7 +7,7 @@ use sh_sharding::{Sharding, grid, rank, whole, without_halos};
 use sh_sharding_tests::{Unread, admit_example};
 use std::alloc::Global;
 
-/// Two shardings without halos, of one shape on one grid.
+/// Two shardings of one shape on one grid.
 #[derive(Drop)]
 pub struct Pair {
     pub from: Sharding,
@@ -26,6 +26,20 @@ fn share_whole(a: &Sharding, b: &Sharding) -> bool
     whole(a).same(whole(b))
 }
 
+/// Refuses shardings on two grids or of two shapes.
+fn match_up(from: &Sharding, to: &Sharding) -> Result<(), Unread>
+    ensures grid { OnOk result (from.now.grid ≡ to.now.grid) }
+    ensures whole { OnOk result (whole_of from.now ≡ whole_of to.now) }
+{
+    if !share_grid(from, to) {
+        return Err(Unread::Text("two grids"));
+    }
+    if !share_whole(from, to) {
+        return Err(Unread::Text("two shapes"));
+    }
+    Ok(())
+}
+
 /// The sharding of an example that is admitted, without its halos.
 #[tactic(auto, using(sh_sharding::proofs::MadeLaws::made_plain))]
 pub fn read_state(alloc: Global, line: &str) -> Result<Sharding, Unread>
@@ -37,8 +51,18 @@ pub fn read_state(alloc: Global, line: &str) -> Result<Sharding, Unread>
     Ok(state)
 }
 
-/// The shardings of two examples that are admitted, on equal grids and of equal shapes, without their
-/// halos.
+/// The shardings of two examples that are admitted, on equal grids and of equal shapes.
+pub fn read_shardings(alloc: Global, from: &str, to: &str) -> Result<Pair, Unread>
+    ensures grid { IfOk result (λ pair. pair.from.grid ≡ pair.to.grid) }
+    ensures whole { IfOk result (λ pair. whole_of pair.from ≡ whole_of pair.to) }
+{
+    let from = admit_example(alloc, from)?.sharding;
+    let to = admit_example(alloc, to)?.sharding;
+    match_up(&from, &to)?;
+    Ok(Pair { from, to })
+}
+
+/// The same without their halos.
 pub fn read_pair(alloc: Global, from: &str, to: &str) -> Result<Pair, Unread>
     ensures from { IfOk result (λ pair. IsState pair.from) }
     ensures to { IfOk result (λ pair. IsState pair.to) }
@@ -48,11 +72,6 @@ pub fn read_pair(alloc: Global, from: &str, to: &str) -> Result<Pair, Unread>
 {
     let from = read_state(alloc, from)?;
     let to = read_state(alloc, to)?;
-    if !share_grid(&from, &to) {
-        return Err(Unread::Text("two grids"));
-    }
-    if !share_whole(&from, &to) {
-        return Err(Unread::Text("two shapes"));
-    }
+    match_up(&from, &to)?;
     Ok(Pair { from, to })
 }
