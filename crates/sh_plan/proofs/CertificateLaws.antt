@@ -21,11 +21,11 @@ own Equal e = refl
 own Greater e = cc
 
 -- a state compares equal to itself
-own_state : (g : List ℕ) (ds : List Dimension) → order_of g ds ds ≡ Equal
+pub own_state : (g : List ℕ) (ds : List Dimension) → order_of g ds ds ≡ Equal
 own_state g ds = own (order_of g ds ds) ((total_order g).antisymm ds ds)
 
 -- a state of a rising table has one place
-one_place : (g : List ℕ) (table : List Distance) → IsRising g table → (i j : ℕ) (a b : Distance) →
+pub one_place : (g : List ℕ) (table : List Distance) → IsRising g table → (i j : ℕ) (a b : Distance) →
     slice_get table i ≡ Some a → slice_get table j ≡ Some b → a.sharding.dimensions ≡ b.sharding.dimensions → i ≡ j
 one_place g table rising i j a b at_i at_j same = elim (cases_order i j) [
   | inl e ↦ e
@@ -40,7 +40,7 @@ one_place g table rising i j a b at_i at_j same = elim (cases_order i j) [
 ]
 
 -- and one number
-one_number : (g : List ℕ) (table : List Distance) → IsRising g table → (ds : List Dimension) (n k : ℕ) → IsListed table ds n → IsListed table ds k → n ≡ k
+pub one_number : (g : List ℕ) (table : List Distance) → IsRising g table → (ds : List Dimension) (n k : ℕ) → IsListed table ds n → IsListed table ds k → n ≡ k
 one_number g table rising ds n k a b =
     let place : a.place ≡ b.place = one_place g table rising a.place b.place a.entry b.entry a.found b.found (a.state ∙ sym b.state) in
     let there : slice_get table b.place ≡ Some a.entry = rw place at a.found in

@@ -10,7 +10,7 @@ use Rattle.sh_sharding.specs.Sharding.{axes_of, is_even, is_split, is_uneven, un
 use Rattle.sh_ways.specs.Graph.{HasWay}
 use Rattle.sh_ways.proofs.Passes.{extended}
 use Rattle.sh_plan.specs.declared.moves.Move.{Move}
-use Rattle.sh_plan.specs.declared.moves.Move.TheVariants.{M1, M2, M4, M5}
+use Rattle.sh_plan.specs.declared.moves.Move.TheVariants.{M1, M2, M3, M4, M5}
 use Rattle.sh_plan.specs.Moves.{after, at, candidates, each_m1, each_m2, each_m3, each_m4, each_m5, may, moves_at, without_last}
 use Rattle.sh_plan.specs.Costs.{cost_between, reshards}
 use Rattle.sh_plan.proofs.Elements.{IsIn, contained, in_filter, in_flat_map, in_left, in_map, in_range, in_right}
@@ -87,6 +87,13 @@ candidate_2 axes rank d a h k =
     in_right (M2 d a) (each_m1 rank) (from_m2 axes rank) (in_left (M2 d a) (each_m2 axes rank) (from_m3 rank)
     (in_flat_map (λ x. map (M2 x) (range_with_len 0 axes)) d (M2 d a) (range_with_len 0 rank) (below_rank rank d h)
     (in_map (M2 d) a (range_with_len 0 axes) (below_rank axes a k))))
+
+pub candidate_3 : (axes rank d e : ℕ) → d < rank → e < rank → IsIn (M3 d e) (candidates axes rank)
+unfolding candidates
+candidate_3 axes rank d e h k =
+    in_right (M3 d e) (each_m1 rank) (from_m2 axes rank) (in_right (M3 d e) (each_m2 axes rank) (from_m3 rank) (in_left (M3 d e) (each_m3 rank) (from_m4 rank)
+    (in_flat_map (λ x. map (M3 x) (range_with_len 0 rank)) d (M3 d e) (range_with_len 0 rank) (below_rank rank d h)
+    (in_map (M3 d) e (range_with_len 0 rank) (below_rank rank e k)))))
 
 pub candidate_4 : (axes rank d : ℕ) → d < rank → IsIn (M4 d) (candidates axes rank)
 unfolding candidates

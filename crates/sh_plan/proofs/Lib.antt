@@ -16,3 +16,8 @@ mod Numbers
 mod EdgeRows
 mod TableSteps
 mod Searches
+mod MovedViews
+mod PlaceSteps
+mod CheckSteps
+mod WaySteps
+mod TableCheck

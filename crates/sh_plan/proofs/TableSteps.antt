@@ -59,7 +59,7 @@ entries_apart (e ∷ es) d =
 own_list : (xs : List ℕ) → pointwise nat_eq xs xs ≡ true
 own_list xs = (pointwise_decides unsigned_Decides xs xs).1 refl
 
-on_own_grid : (g : GridValue) (s : ShardingValue) → s.grid ≡ g → dimensions_on g.extents s ≡ s.dimensions
+pub on_own_grid : (g : GridValue) (s : ShardingValue) → s.grid ≡ g → dimensions_on g.extents s ≡ s.dimensions
 on_own_grid g s e =
     let same : pointwise nat_eq s.grid.extents g.extents ≡ true = rw e (own_list g.extents) in
     rw same refl

@@ -4,3 +4,4 @@ pub mod Plans
 pub mod States
 pub mod Tables
 pub mod Found
+pub mod Checks

@@ -4,17 +4,24 @@
 mod allowed;
 mod apart;
 mod candidates;
+mod checking;
+mod checks;
 mod costs;
 mod exploring;
 mod laws;
+mod leading;
 mod moves;
 mod moving;
+mod named;
+mod places;
 mod planning;
 mod plans;
 mod tables;
+mod viewing;
 
 pub use allowed::is_allowed;
 pub use candidates::allowed_moves;
+pub use checks::check_plan;
 pub use costs::cost;
 pub use laws::{certificate_law, cost_law, reach_law};
 pub use moves::Move;

@@ -65,7 +65,7 @@ fn without_last_axis(alloc: Global, d: &Dimension) -> Dimension
 }
 
 /// A list of axes with one more, the innermost.
-fn appended(axes: &[u64], axis: u64) -> [u64; MAX_RANK]
+pub(crate) fn appended(axes: &[u64], axis: u64) -> [u64; MAX_RANK]
     requires { length axes.now < max_rank }
     ensures long { length result ≡ max_rank }
     ensures value { take (length axes.now + 1) result ≡ axes.now ++ axis ∷ [] }

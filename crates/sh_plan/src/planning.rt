@@ -79,11 +79,18 @@ fn are_plain(listed: &[Dimension]) -> bool
     listed.iter().all(|d| is_plain(d))
 }
 
+/// Whether a sharding has no halos.
+pub(crate) fn is_halo_free(s: &Sharding) -> bool
+    ensures { IsTrue result ↔ HasNoHalos s.now.dimensions }
+{
+    are_plain(dimensions(s))
+}
+
 /// Whether a sharding has halos.
-pub(crate) fn has_halos(s: &Sharding) -> bool
+fn has_halos(s: &Sharding) -> bool
     ensures { IsTrue result ↔ ¬ HasNoHalos s.now.dimensions }
 {
-    !are_plain(dimensions(s))
+    !is_halo_free(s)
 }
 
 /// Whether the shardings differ and this one has halos.
