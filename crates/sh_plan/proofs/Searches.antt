@@ -5,7 +5,7 @@ use Rattle.std.specs.List.{Contains}
 use Rattle.std.proofs.lemmas.List.{length-map}
 use Rattle.std.proofs.lemmas.Option.{get_or_from_slice_get, slice_get-get_or, slice_get_within}
 use Rattle.sh_sharding.specs.declared.shardings.Dimension.{Dimension}
-use Rattle.sh_sharding.specs.Sharding.{HasNoHalos, ShardingValue}
+use Rattle.sh_sharding.specs.Sharding.{ShardingValue}
 use Rattle.sh_ways.specs.declared.search.Edge.{Edge}
 use Rattle.sh_ways.specs.Graph.{IsDist, ThePlan, total}
 use Rattle.sh_ways.specs.Rows.{AllReachState, AreDists, HoldsOfStates, IsEdgeOf, edges_at, graph_of}
@@ -19,6 +19,7 @@ use Rattle.sh_plan.specs.declared.moves.Move.{Move}
 use Rattle.sh_plan.specs.declared.plans.Distance.{Distance}
 use Rattle.sh_plan.specs.declared.planning.Found.{Found}
 use Rattle.sh_plan.specs.Costs.{cost_between, reshards}
+use Rattle.sh_plan.specs.Checks.{IsEntryFor}
 use Rattle.sh_plan.specs.Found.{IsFound, IsUncut}
 use Rattle.sh_plan.specs.Plans.{HasFlags, IsCertificate, IsListed, IsPair, reshards_to, state_of}
 use Rattle.sh_plan.specs.States.{IsExplored, IsStateTo, keys_of, towards}
@@ -132,17 +133,18 @@ found from to all d es f x dists long plan moves cost t =
     record {
       plan = rw moves ((known from to all x).plan d es all.start from.dimensions dists x.source plan);
       dist = rw cost here;
-      halo_free = halos;
+      each = states;
+      halo_free = λ k e within. (states k e within).state.plain;
       rising = t.rising;
       source = rw cost (at_listed to.grid.extents all d f.table t same all.start from.dimensions x.source);
       target = rw (← zero) (at_listed to.grid.extents all d f.table t same all.goal to.dimensions x.target);
       uncut = uncut from to all d f.table x dists same t;
     }
   where
-    halos : All (λ e. HasNoHalos e.sharding.dimensions) f.table
-    halos k e within =
+    states : All (λ e. IsStateTo to e.sharding) f.table
+    states k e within =
         let has = t.only k e within in
-        (all_get (IsStateTo to) all.states.items has.place _ x.each has.state).state.plain
+        all_get (IsStateTo to) all.states.items has.place _ x.each has.state
 
 -- ---- halos left out
 
@@ -175,3 +177,7 @@ certificate from to f drop add x flags =
       distance = x.source;
       flags = flags;
     }
+
+-- its entries have the target's shape and stand on its grid
+pub entries_for : (to : ShardingValue) (table : List Distance) → All (λ e. IsStateTo (without_halos to) e.sharding) table → All (IsEntryFor to) table
+entries_for to table all k e within = let is = all k e within in record { grid = is.grid; whole = is.whole ∙ plain_whole to.dimensions }

@@ -7,7 +7,7 @@ use Rattle.sh_plan.specs.declared.moves.Move.{Move}
 use Rattle.sh_plan.specs.declared.plans.Distance.{Distance}
 use Rattle.sh_plan.specs.declared.planning.Found.{Found}
 use Rattle.sh_plan.specs.Plans.{HasState, IsListed, IsRising}
-use Rattle.sh_plan.specs.States.{towards}
+use Rattle.sh_plan.specs.States.{IsStateTo, towards}
 
 abbrev pub HasNoHalo : Dimension → Type 0
 HasNoHalo d = (d.low ≡ 0) × (d.high ≡ 0)
@@ -22,6 +22,7 @@ pub record IsUncut (g : Graph (List Dimension) Move) (table : List Distance) : T
 pub record IsFound (from to : ShardingValue) (found : Found) : Type 0 where
   pub plan : ThePlan (towards to) from.dimensions found.moves to.dimensions
   pub dist : IsDist (towards to) from.dimensions to.dimensions found.cost
+  pub each : All (λ e. IsStateTo to e.sharding) found.table
   pub halo_free : All (λ e. HasNoHalos e.sharding.dimensions) found.table
   pub rising : IsRising to.grid.extents found.table
   pub source : IsListed found.table from.dimensions found.cost

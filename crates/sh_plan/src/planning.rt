@@ -1,6 +1,7 @@
 ghost use Rattle.std.specs.Prelude.{◌≡◌, ◌↔◌, All, IfOk, IsTrue, map};
 ghost use Rattle.sh_sharding.specs.Made.{without_halos};
 ghost use Rattle.sh_sharding.specs.Sharding.{HasNoHalos, whole_of};
+ghost use Rattle.sh_plan.specs.Checks.{IsEntryFor};
 ghost use Rattle.sh_plan.specs.Found.{HasNoHalo, IsFound};
 ghost use Rattle.sh_plan.specs.Plans.{DiffersWithHalos, IsCertificate, IsPair, IsThePlan};
 ghost use Rattle.sh_plan.specs.States.{IsExplored, IsStateTo};
@@ -111,6 +112,7 @@ pub fn plan(alloc: Global, g: &Grid, from: &Sharding, to: &Sharding) -> Result<P
     requires whole { whole_of from.now ≡ whole_of to.now }
     ensures plan { IfOk result (IsThePlan from.now to.now) }
     ensures certificate { IfOk result (IsCertificate from.now to.now) }
+    ensures table { IfOk result (λ p. All (IsEntryFor to.now) p.table) }
 {
     let (_source, _target) = (whole(from), whole(to));
     let found = least_between(alloc, from, to)?;
