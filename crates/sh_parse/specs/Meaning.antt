@@ -1,7 +1,7 @@
 -- What each form stands for, in the order of the grammar in Language.antt of sh_grammar. A clause
 -- names the parts of one alternative, and says what they become. Alternatives are told apart by their
 -- parts, or by their numbers where they have as many.
-use Rattle.std.specs.Prelude.{ℕ, zero, suc, ◌+◌, ℤ, pos, neg_ℤ, List, [], ◌∷◌, ◌++◌, length, map, get_or, slice_get, unwrap_or, Option, Some, None, Bool, true, false, nat_eq, codes, if◌then◌else◌}
+use Rattle.std.specs.Prelude.{ℕ, ◌+◌, ℤ, pos, neg_ℤ, List, [], ◌∷◌, ◌++◌, length, map, get_or, slice_get, unwrap_or, Option, Some, None, Bool, true, false, nat_eq, codes, if◌then◌else◌}
 use Rattle.std.specs.Cmp.Lexicographic.{pointwise}
 use Rattle.sh_base.specs.declared.numbers.Width.{Width}
 use Rattle.sh_base.specs.declared.numbers.Width.TheVariants.{I1, I8, I16, I32, I64}
@@ -39,8 +39,8 @@ use Rattle.sh_ir.specs.declared.types.Dim.TheVariants as dim
 use Rattle.sh_ir.specs.declared.types.RawSharding.{RawSharding}
 use Rattle.sh_ir.specs.declared.types.ValueType as value_type
 use Rattle.sh_ir.specs.declared.types.ValueType.TheVariants as type
-use Rattle.sh_parse.specs.declared.literals.Element.TheVariants.{Number, Truth}
-use Rattle.sh_parse.specs.declared.literals.Literal.TheVariants as literal
+use Rattle.sh_literals.specs.declared.literals.Element.TheVariants.{Number, Truth}
+use Rattle.sh_literals.specs.declared.literals.Literal.TheVariants as literal
 use Rattle.sh_parse.specs.declared.parts.Contents as contents
 use Rattle.sh_parse.specs.declared.parts.Device as device
 use Rattle.sh_parse.specs.declared.parts.Mark.{Mark}
@@ -49,9 +49,9 @@ use Rattle.sh_parse.specs.declared.parts.Part.{Part}
 use Rattle.sh_parse.specs.declared.parts.Part.TheVariants as part
 use Rattle.sh_parse.specs.declared.parts.StructuredName as structured_name
 use Rattle.sh_parse.specs.declared.parts.StructuredName.TheVariants as structured
-use Rattle.sh_parse.specs.Fronts.{before}
+use Rattle.sh_literals.specs.Fronts.{before}
 use Rattle.sh_parse.specs.Readings.{alias_in, aliases_in, arg_in, args_in, bin_op_in, body_op_in, cast_op_in, combiner_in, constant_in, constants_in, contents_in, cut_in, cuts_in, dim_in, dims_in, flag_in, groups_in, id_in, ids_in, iterators_in, kind_in, lists_in, literal_in, map_in, maps_in, mark_in, module_name_in, number_in, numbers_in, operands_in, op_in, ops_in, place_in, predicate_in, quoted_in, signed_in, structured_in, symbol_in, tail_in, type_in, types_in, width_in}
-use Rattle.sh_parse.specs.LiteralCells.{dense, in_front, no_list, scalar, single}
+use Rattle.sh_literals.specs.LiteralCells.{dense, in_front, no_list, scalar, single}
 
 -- ---- what the words of a form stand for, in the order of the grammar
 
@@ -223,6 +223,10 @@ slice_of offsets sizes strides = record {
   strides = numbers_in strides;
 }
 
+abbrev pub constant_side : Part → Part
+constant_side (part.Constant c) = arith (body_kind.Constant c) [] c.value_type
+constant_side _ = part.Nothing
+
 abbrev pub comparing : Part → Part → Part → Part → Part
 comparing predicate a b t =
     arith (body_kind.Compare (record { predicate = predicate_in predicate; operand_type = type_in t }))
@@ -365,8 +369,7 @@ made Func i (mark ∷ private ∷ name ∷ _ ∷ args ∷ _ ∷ results ∷ _ �
       place = place_in mark;
     })
 made Visibility i [] = part.Flag false
-made Visibility (suc zero) (_ ∷ []) = part.Flag true
-made Visibility i (_ ∷ []) = part.Flag false
+made Visibility i (_ ∷ []) = part.Flag (nat_eq i 1)
 made Parameters i [] = part.Args []
 made Parameters i (arg ∷ more ∷ []) = part.Args (before (arg_in arg) (args_in more))
 made MoreParameters i [] = part.Args []
@@ -398,11 +401,10 @@ made MoreValues i [] = part.Ids []
 made MoreValues i (_ ∷ name ∷ more ∷ []) = part.Ids (id_in name ∷ ids_in more)
 made Dense i (_ ∷ _ ∷ cells ∷ _ ∷ []) = cells
 made Cells i [] = part.Literal literal.Empty
-made Cells (suc zero) (element ∷ []) = element
-made Cells i (string ∷ []) = part.Literal (literal.Quoted (quoted_in string))
-made Element zero (num ∷ []) = part.Literal (single (Number (signed_in num)))
-made Element (suc zero) (_ ∷ []) = part.Literal (single (Truth true))
-made Element i (_ ∷ []) = part.Literal (single (Truth false))
+made Cells i (it ∷ []) =
+    if nat_eq i 1 then it else part.Literal (literal.Quoted (quoted_in it))
+made Element i (it ∷ []) =
+    part.Literal (single (if nat_eq i 0 then Number (signed_in it) else Truth (nat_eq i 1)))
 made Element i (_ ∷ list ∷ _ ∷ []) = list
 made Elements i [] = part.Literal no_list
 made Elements i (element ∷ more ∷ []) = part.Literal (in_front (literal_in element) (literal_in more))
@@ -528,12 +530,11 @@ made Call i (_ ∷ callee ∷ _ ∷ values ∷ _ ∷ _ ∷ _ ∷ types ∷ _ ∷
     (ids_in values) (type_in result)
 made CallName i (word ∷ []) = word
 made Arith i (right ∷ []) = right
-made Constant i (_ ∷ (part.Constant c) ∷ []) = arith (body_kind.Constant c) [] c.value_type
-made Literal zero (_ ∷ []) = part.Constant (scalar I1 (Truth true))
-made Literal i (_ ∷ []) = part.Constant (scalar I1 (Truth false))
-made Literal (suc (suc zero)) (num ∷ _ ∷ w ∷ []) =
-    part.Constant (scalar (width_in w) (Number (signed_in num)))
-made Literal i (literal ∷ _ ∷ t ∷ []) = part.Constant (dense (type_in t) (literal_in literal))
+made Constant i (_ ∷ constant ∷ []) = constant_side constant
+made Literal i (_ ∷ []) = part.Constant (scalar I1 (Truth (nat_eq i 0)))
+made Literal i (it ∷ _ ∷ t ∷ []) = part.Constant (
+    if nat_eq i 2 then scalar (width_in t) (Number (signed_in it))
+    else dense (type_in t) (literal_in it))
 made Binary i (name ∷ a ∷ _ ∷ b ∷ _ ∷ t ∷ []) =
     arith (body_kind.Binary (bin_op_in name)) (id_in a ∷ id_in b ∷ []) (type_in t)
 made BinaryName i (_ ∷ []) = part.BinOp (get_or the_bin_ops i Addi)
@@ -591,8 +592,7 @@ made Maps i [] = part.Maps []
 made Maps i (map ∷ more ∷ []) = part.Maps (before (map_in map) (maps_in more))
 made MoreMaps i [] = part.Maps []
 made MoreMaps i (_ ∷ map ∷ more ∷ []) = part.Maps (before (map_in map) (maps_in more))
-made MapOrAlias zero (hash ∷ []) = part.Map (alias_in hash).map
-made MapOrAlias i (map ∷ []) = map
+made MapOrAlias i (it ∷ []) = if nat_eq i 0 then part.Map (alias_in it).map else it
 made Iterators i [] = part.Iterators []
 made Iterators i (string ∷ more ∷ []) =
     part.Iterators (iterator_of (quoted_in string) ∷ iterators_in more)

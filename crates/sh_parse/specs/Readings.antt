@@ -24,8 +24,8 @@ use Rattle.sh_ir.specs.declared.linalg_ops.AffineMap.{AffineMap}
 use Rattle.sh_ir.specs.declared.linalg_ops.IteratorType.{IteratorType}
 use Rattle.sh_ir.specs.declared.operations.Op.{Op}
 use Rattle.sh_ir.specs.declared.shard_ops.GridAxes.{GridAxes}
-use Rattle.sh_parse.specs.declared.literals.Literal.{Literal}
-use Rattle.sh_parse.specs.declared.literals.Literal.TheVariants.{Empty}
+use Rattle.sh_literals.specs.declared.literals.Literal.{Literal}
+use Rattle.sh_literals.specs.declared.literals.Literal.TheVariants.{Empty}
 use Rattle.sh_parse.specs.declared.parts.Alias.{Alias}
 use Rattle.sh_parse.specs.declared.parts.BodyTail.{BodyTail}
 use Rattle.sh_parse.specs.declared.parts.Combiner.{Combiner}

@@ -1,4 +1,4 @@
-ghost use Rattle.std.specs.Prelude.{◌≡◌, ℕ, IfOk};
+ghost use Rattle.std.specs.Prelude.{◌≡◌, IfOk};
 ghost use Rattle.sh_grammar.specs.declared.forms.Form.TheVariants as form;
 ghost use Rattle.sh_parse.specs.Meaning.{made};
 ghost use Rattle.sh_parse.specs.Rows.{firsts, past};
@@ -13,7 +13,7 @@ use std::alloc::Global;
 /// `arith.NAME %a, %b : T`
 #[tactic(auto, unfolding(crate::specs::Meaning::made))]
 pub(crate) fn binary(alloc: Global, row: &mut Row) -> Result<Part, Mem>
-    ensures made { (i : ℕ) → IfOk result (λ part. part ≡ made form.Binary i (firsts 6 row.old)) }
+    ensures made { IfOk result (λ part. part ≡ made form.Binary 0 (firsts 6 row.old)) }
     ensures rest { IfOk result (λ _. row.new ≡ past 6 row.old) }
 {
     let op = row.next().bin_op();
@@ -28,7 +28,7 @@ pub(crate) fn binary(alloc: Global, row: &mut Row) -> Result<Part, Mem>
 /// `arith.NAME %a : T to U`
 #[tactic(auto, unfolding(crate::specs::Meaning::made))]
 pub(crate) fn cast(alloc: Global, row: &mut Row) -> Result<Part, Mem>
-    ensures made { (i : ℕ) → IfOk result (λ part. part ≡ made form.Cast i (firsts 6 row.old)) }
+    ensures made { IfOk result (λ part. part ≡ made form.Cast 0 (firsts 6 row.old)) }
     ensures rest { IfOk result (λ _. row.new ≡ past 6 row.old) }
 {
     let op = row.next().cast_op();
@@ -48,8 +48,7 @@ pub(crate) fn cast(alloc: Global, row: &mut Row) -> Result<Part, Mem>
 /// `linalg.index N : index`
 #[tactic(auto, unfolding(crate::specs::Meaning::made))]
 pub(crate) fn index(alloc: Global, row: &mut Row) -> Result<Part, Mem>
-    ensures made { (i : ℕ) → IfOk result (λ part.
-        part ≡ made form.LoopIndex i (firsts 4 row.old)) }
+    ensures made { IfOk result (λ part. part ≡ made form.LoopIndex 0 (firsts 4 row.old)) }
     ensures rest { IfOk result (λ _. row.new ≡ past 4 row.old) }
 {
     row.skip(1);
@@ -66,8 +65,7 @@ pub(crate) fn index(alloc: Global, row: &mut Row) -> Result<Part, Mem>
 /// `arith.index_cast %i : index to WIDTH`
 #[tactic(auto, unfolding(crate::specs::Meaning::made))]
 pub(crate) fn index_cast(alloc: Global, row: &mut Row) -> Result<Part, Mem>
-    ensures made { (i : ℕ) → IfOk result (λ part.
-        part ≡ made form.IndexCast i (firsts 6 row.old)) }
+    ensures made { IfOk result (λ part. part ≡ made form.IndexCast 0 (firsts 6 row.old)) }
     ensures rest { IfOk result (λ _. row.new ≡ past 6 row.old) }
 {
     row.skip(1);

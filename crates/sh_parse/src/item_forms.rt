@@ -1,4 +1,4 @@
-ghost use Rattle.std.specs.Prelude.{◌≡◌, ℕ, map, IfOk};
+ghost use Rattle.std.specs.Prelude.{◌≡◌, [], map, IfOk};
 ghost use Rattle.sh_grammar.specs.declared.forms.Form.TheVariants as form;
 ghost use Rattle.sh_parse.specs.Meaning.{made, with_item as with_item_of, carried as carried_of, on_grid as cut_on_grid};
 ghost use Rattle.sh_parse.specs.Rows.{firsts, past};
@@ -9,12 +9,13 @@ use crate::readings::discard;
 use crate::row::Row;
 use sh_base::{Duplicate, Items, Mem, Text};
 use sh_ir::{AffineMap, CallItem, Carry, Cut, Cuts, Func, GridItem, Module, RawSharding};
+use sh_literals::Rest;
 use std::alloc::Global;
 
 /// The aliases at the head of a file
 #[tactic(auto, unfolding(crate::specs::Meaning::made))]
 pub(crate) fn aliases(alloc: Global, row: &mut Row) -> Result<Part, Mem>
-    ensures made { (i : ℕ) → IfOk result (λ part. part ≡ made form.Aliases i (firsts 2 row.old)) }
+    ensures made { IfOk result (λ part. part ≡ made form.Aliases 0 (firsts 2 row.old)) }
     ensures rest { IfOk result (λ _. row.new ≡ past 2 row.old) }
 {
     let first = row.next().alias(alloc);
@@ -25,7 +26,7 @@ pub(crate) fn aliases(alloc: Global, row: &mut Row) -> Result<Part, Mem>
 /// `#name = affine_map<..>`
 #[tactic(auto, unfolding(crate::specs::Meaning::made))]
 pub(crate) fn alias(alloc: Global, row: &mut Row) -> Part
-    ensures made { (i : ℕ) → result ≡ made form.Alias i (firsts 3 row.old) }
+    ensures made { result ≡ made form.Alias 0 (firsts 3 row.old) }
     ensures rest { row.new ≡ past 3 row.old }
 {
     let name = row.next().alias(alloc).name;
@@ -40,7 +41,7 @@ pub(crate) fn alias(alloc: Global, row: &mut Row) -> Part
 /// `affine_map<(d0, d1) -> (d1)>`
 #[tactic(auto, unfolding(crate::specs::Meaning::made))]
 pub(crate) fn map(alloc: Global, row: &mut Row) -> Part
-    ensures made { (i : ℕ) → result ≡ made form.Map i (firsts 10 row.old) }
+    ensures made { result ≡ made form.Map 0 (firsts 10 row.old) }
     ensures rest { row.new ≡ past 10 row.old }
 {
     row.skip(3);
@@ -54,7 +55,7 @@ pub(crate) fn map(alloc: Global, row: &mut Row) -> Part
 /// `module @name { .. }`
 #[tactic(auto, unfolding(crate::specs::Meaning::made))]
 pub(crate) fn named_module(alloc: Global, row: &mut Row) -> Result<Part, Mem>
-    ensures made { (i : ℕ) → IfOk result (λ part. part ≡ made form.Contents i (firsts 5 row.old)) }
+    ensures made { IfOk result (λ part. part ≡ made form.Contents 0 (firsts 5 row.old)) }
     ensures rest { IfOk result (λ _. row.new ≡ past 5 row.old) }
 {
     row.skip(1);
@@ -74,7 +75,7 @@ pub(crate) fn named_module(alloc: Global, row: &mut Row) -> Result<Part, Mem>
 /// Items that stand in no `module`
 #[tactic(auto, unfolding(crate::specs::Meaning::made))]
 pub(crate) fn bare_module(alloc: Global, row: &mut Row) -> Result<Part, Mem>
-    ensures made { (i : ℕ) → IfOk result (λ part. part ≡ made form.Contents i (firsts 1 row.old)) }
+    ensures made { IfOk result (λ part. part ≡ made form.Contents 0 (firsts 1 row.old)) }
     ensures rest { IfOk result (λ _. row.new ≡ past 1 row.old) }
 {
     let contents = row.next().contents(alloc);
@@ -90,7 +91,7 @@ pub(crate) fn bare_module(alloc: Global, row: &mut Row) -> Result<Part, Mem>
 /// `@name`
 #[tactic(auto, unfolding(crate::specs::Meaning::made))]
 pub(crate) fn module_name(alloc: Global, row: &mut Row) -> Part
-    ensures made { (i : ℕ) → result ≡ made form.ModuleName i (firsts 1 row.old) }
+    ensures made { result ≡ made form.ModuleName 0 (firsts 1 row.old) }
     ensures rest { row.new ≡ past 1 row.old }
 {
     Part::ModuleName(Some(row.next().symbol(alloc)))
@@ -132,10 +133,22 @@ fn with_item(item: Part, contents: Contents) -> Result<Contents, Mem>
     }
 }
 
+/// No items
+#[tactic(auto, unfolding(crate::specs::Meaning::made))]
+pub(crate) fn no_items(alloc: Global) -> Part
+    ensures { result ≡ made form.Items 0 [] }
+{
+    Part::Contents(Contents {
+        grids: Rest::new(alloc),
+        funcs: Rest::new(alloc),
+        calls: Rest::new(alloc),
+    })
+}
+
 /// The items of a module
 #[tactic(auto, unfolding(crate::specs::Meaning::made))]
 pub(crate) fn items(alloc: Global, row: &mut Row) -> Result<Part, Mem>
-    ensures made { (i : ℕ) → IfOk result (λ part. part ≡ made form.Items i (firsts 2 row.old)) }
+    ensures made { IfOk result (λ part. part ≡ made form.Items 0 (firsts 2 row.old)) }
     ensures rest { IfOk result (λ _. row.new ≡ past 2 row.old) }
 {
     let first = row.next();
@@ -146,7 +159,7 @@ pub(crate) fn items(alloc: Global, row: &mut Row) -> Result<Part, Mem>
 /// `shard.grid @g(shape = 2x4)`
 #[tactic(auto, unfolding(crate::specs::Meaning::made))]
 pub(crate) fn grid(alloc: Global, row: &mut Row) -> Result<Part, Mem>
-    ensures made { (i : ℕ) → IfOk result (λ part. part ≡ made form.Item i (firsts 7 row.old)) }
+    ensures made { IfOk result (λ part. part ≡ made form.Item 0 (firsts 7 row.old)) }
     ensures rest { IfOk result (λ _. row.new ≡ past 7 row.old) }
 {
     let place = row.next().mark().place;
@@ -165,7 +178,7 @@ pub(crate) fn grid(alloc: Global, row: &mut Row) -> Result<Part, Mem>
 /// `shardrun.call @f(dense<1> : T)`
 #[tactic(auto, unfolding(crate::specs::Meaning::made))]
 pub(crate) fn call_item(alloc: Global, row: &mut Row) -> Result<Part, Mem>
-    ensures made { (i : ℕ) → IfOk result (λ part. part ≡ made form.Item i (firsts 5 row.old)) }
+    ensures made { IfOk result (λ part. part ≡ made form.Item 0 (firsts 5 row.old)) }
     ensures rest { IfOk result (λ _. row.new ≡ past 5 row.old) }
 {
     let place = row.next().mark().place;
@@ -203,7 +216,7 @@ fn carried(alloc: Global, device: Part, func: Part) -> Result<Part, Mem>
 /// A device item and its function
 #[tactic(auto, unfolding(crate::specs::Meaning::made))]
 pub(crate) fn device_func(alloc: Global, row: &mut Row) -> Result<Part, Mem>
-    ensures made { (i : ℕ) → IfOk result (λ part. part ≡ made form.Item i (firsts 2 row.old)) }
+    ensures made { IfOk result (λ part. part ≡ made form.Item 0 (firsts 2 row.old)) }
     ensures rest { IfOk result (λ _. row.new ≡ past 2 row.old) }
 {
     let device = row.next();
@@ -214,7 +227,7 @@ pub(crate) fn device_func(alloc: Global, row: &mut Row) -> Result<Part, Mem>
 /// `tensor<4xi32> split_axes = [[0]]`
 #[tactic(auto, unfolding(crate::specs::Meaning::made))]
 pub(crate) fn cut(alloc: Global, row: &mut Row) -> Result<Part, Mem>
-    ensures made { (i : ℕ) → IfOk result (λ part. part ≡ made form.Cut i (firsts 6 row.old)) }
+    ensures made { IfOk result (λ part. part ≡ made form.Cut 0 (firsts 6 row.old)) }
     ensures rest { IfOk result (λ _. row.new ≡ past 6 row.old) }
 {
     let whole = row.next().value_type();
@@ -234,7 +247,7 @@ pub(crate) fn cut(alloc: Global, row: &mut Row) -> Result<Part, Mem>
 /// `func.func @f(%a : T) -> U { .. }`
 #[tactic(auto, unfolding(crate::specs::Meaning::made))]
 pub(crate) fn func(alloc: Global, row: &mut Row) -> Result<Part, Mem>
-    ensures made { (i : ℕ) → IfOk result (λ part. part ≡ made form.Func i (firsts 10 row.old)) }
+    ensures made { IfOk result (λ part. part ≡ made form.Func 0 (firsts 10 row.old)) }
     ensures rest { IfOk result (λ _. row.new ≡ past 10 row.old) }
 {
     let place = row.next().mark().place;
@@ -289,7 +302,7 @@ fn cut_on(alloc: Global, cut: &Cut, grid: &Text) -> Result<Cut, Mem>
 /// `shardrun.device @f on @g(..) -> (..)`
 #[tactic(auto, unfolding(crate::specs::Meaning::made))]
 pub(crate) fn device(alloc: Global, row: &mut Row) -> Result<Part, Mem>
-    ensures made { (i : ℕ) → IfOk result (λ part. part ≡ made form.Device i (firsts 11 row.old)) }
+    ensures made { IfOk result (λ part. part ≡ made form.Device 0 (firsts 11 row.old)) }
     ensures rest { IfOk result (λ _. row.new ≡ past 11 row.old) }
 {
     let place = row.next().mark().place;

@@ -6,24 +6,23 @@ mod boxed;
 mod item_forms;
 mod laws;
 mod list_forms;
-mod literals;
+mod literal_forms;
 mod operation_forms;
 mod parts;
 mod readings;
+mod region_forms;
 mod regions;
-mod rests;
 mod row;
 mod shard_forms;
 mod sides;
+mod small_forms;
 mod structured_forms;
 mod tensor_forms;
 mod words;
 
 pub use boxed::Boxed;
 pub use laws::one_module;
-pub use literals::{Element, Literal, Nested};
 pub use parts::{
     Alias, Arith, BodyTail, Combiner, Contents, Device, Mark, Operands, Part, RightSide,
     StructuredName,
 };
-pub use rests::Rest;

@@ -1,8 +1,8 @@
-ghost use Rattle.std.specs.Prelude.{◌≡◌, ◌∷◌, ℕ, IfOk};
+ghost use Rattle.std.specs.Prelude.{◌≡◌, [], ◌∷◌, IfOk};
 ghost use Rattle.sh_grammar.specs.declared.forms.Form.TheVariants as form;
 ghost use Rattle.sh_parse.specs.declared.parts.Part.TheVariants as parts;
-ghost use Rattle.sh_parse.specs.Fronts.{before};
-ghost use Rattle.sh_parse.specs.Meaning.{made};
+ghost use Rattle.sh_literals.specs.Fronts.{before};
+ghost use Rattle.sh_parse.specs.Meaning.{made, operands_of};
 ghost use Rattle.sh_parse.specs.Readings.{
   arg_in,
   args_in,
@@ -26,10 +26,10 @@ ghost use Rattle.sh_parse.specs.Rows.{first_part, firsts, past};
 
 use crate::boxed::Boxed;
 use crate::parts::{Operands, Part};
-use crate::rests::Rest;
 use crate::row::Row;
-use sh_base::Mem;
+use sh_base::{Items, Mem};
 use sh_ir::{Arg, Dim, TensorType, ValueType};
+use sh_literals::Rest;
 use std::alloc::Global;
 
 /// `%a, %b`, or the words of a map
@@ -134,8 +134,7 @@ pub(crate) fn dims(alloc: Global, row: &mut Row) -> Result<Part, Mem>
 /// One result type
 #[tactic(auto, unfolding(crate::specs::Meaning::made))]
 pub(crate) fn one_type(alloc: Global, row: &mut Row) -> Result<Part, Mem>
-    ensures made { (i : ℕ) → IfOk result (λ part.
-        part ≡ made form.ResultTypes i (firsts 1 row.old)) }
+    ensures made { IfOk result (λ part. part ≡ made form.ResultTypes 0 (firsts 1 row.old)) }
     ensures rest { IfOk result (λ _. row.new ≡ past 1 row.old) }
 {
     let first = row.next().value_type();
@@ -146,8 +145,7 @@ pub(crate) fn one_type(alloc: Global, row: &mut Row) -> Result<Part, Mem>
 /// `, T`
 #[tactic(auto, unfolding(crate::specs::Meaning::made))]
 pub(crate) fn second_type(alloc: Global, row: &mut Row) -> Result<Part, Mem>
-    ensures made { (i : ℕ) → IfOk result (λ part.
-        part ≡ made form.SelectTypes i (firsts 2 row.old)) }
+    ensures made { IfOk result (λ part. part ≡ made form.SelectTypes 0 (firsts 2 row.old)) }
     ensures rest { IfOk result (λ _. row.new ≡ past 2 row.old) }
 {
     row.skip(1);
@@ -159,7 +157,7 @@ pub(crate) fn second_type(alloc: Global, row: &mut Row) -> Result<Part, Mem>
 /// `tensor<4x8xi32>`
 #[tactic(auto, unfolding(crate::specs::Meaning::made))]
 pub(crate) fn tensor_type(alloc: Global, row: &mut Row) -> Part
-    ensures made { (i : ℕ) → result ≡ made form.ValueType i (firsts 5 row.old) }
+    ensures made { result ≡ made form.ValueType 0 (firsts 5 row.old) }
     ensures rest { row.new ≡ past 5 row.old }
 {
     row.skip(2);
@@ -172,7 +170,7 @@ pub(crate) fn tensor_type(alloc: Global, row: &mut Row) -> Part
 /// `i32`
 #[tactic(auto, unfolding(crate::specs::Meaning::made))]
 pub(crate) fn scalar_type(row: &mut Row) -> Part
-    ensures made { (i : ℕ) → result ≡ made form.ValueType i (firsts 1 row.old) }
+    ensures made { result ≡ made form.ValueType 0 (firsts 1 row.old) }
     ensures rest { row.new ≡ past 1 row.old }
 {
     Part::Type(ValueType::Scalar(row.next().width()))
@@ -181,8 +179,7 @@ pub(crate) fn scalar_type(row: &mut Row) -> Part
 /// `%a : T`
 #[tactic(auto, unfolding(crate::specs::Meaning::made))]
 pub(crate) fn parameter(alloc: Global, row: &mut Row) -> Result<Part, Mem>
-    ensures made { (i : ℕ) → IfOk result (λ part.
-        part ≡ made form.Parameter i (firsts 3 row.old)) }
+    ensures made { IfOk result (λ part. part ≡ made form.Parameter 0 (firsts 3 row.old)) }
     ensures rest { IfOk result (λ _. row.new ≡ past 3 row.old) }
 {
     let id = row.next().mark().id;
@@ -194,8 +191,7 @@ pub(crate) fn parameter(alloc: Global, row: &mut Row) -> Result<Part, Mem>
 /// `%in : i32`
 #[tactic(auto, unfolding(crate::specs::Meaning::made))]
 pub(crate) fn block_argument(alloc: Global, row: &mut Row) -> Result<Part, Mem>
-    ensures made { (i : ℕ) → IfOk result (λ part.
-        part ≡ made form.BlockArgument i (firsts 3 row.old)) }
+    ensures made { IfOk result (λ part. part ≡ made form.BlockArgument 0 (firsts 3 row.old)) }
     ensures rest { IfOk result (λ _. row.new ≡ past 3 row.old) }
 {
     let id = row.next().mark().id;
@@ -207,7 +203,7 @@ pub(crate) fn block_argument(alloc: Global, row: &mut Row) -> Result<Part, Mem>
 /// `2`
 #[tactic(auto, unfolding(crate::specs::Meaning::made))]
 pub(crate) fn number(row: &mut Row) -> Part
-    ensures made { (i : ℕ) → result ≡ made form.Num i (firsts 1 row.old) }
+    ensures made { result ≡ made form.Num 0 (firsts 1 row.old) }
     ensures rest { row.new ≡ past 1 row.old }
 {
     Part::Signed(i128::from(row.next().number()))
@@ -216,7 +212,7 @@ pub(crate) fn number(row: &mut Row) -> Part
 /// `-2`
 #[tactic(auto, unfolding(crate::specs::Meaning::made))]
 pub(crate) fn negative(row: &mut Row) -> Part
-    ensures made { (i : ℕ) → result ≡ made form.Num i (firsts 2 row.old) }
+    ensures made { result ≡ made form.Num 0 (firsts 2 row.old) }
     ensures rest { row.new ≡ past 2 row.old }
 {
     row.skip(1);
@@ -226,7 +222,7 @@ pub(crate) fn negative(row: &mut Row) -> Part
 /// `2x4`
 #[tactic(auto, unfolding(crate::specs::Meaning::made))]
 pub(crate) fn extent(alloc: Global, row: &mut Row) -> Result<Part, Mem>
-    ensures made { (i : ℕ) → IfOk result (λ part. part ≡ made form.Extents i (firsts 2 row.old)) }
+    ensures made { IfOk result (λ part. part ≡ made form.Extents 0 (firsts 2 row.old)) }
     ensures rest { IfOk result (λ _. row.new ≡ past 2 row.old) }
 {
     let first = match row.next().dim() {
@@ -240,7 +236,7 @@ pub(crate) fn extent(alloc: Global, row: &mut Row) -> Result<Part, Mem>
 /// `4`
 #[tactic(auto, unfolding(crate::specs::Meaning::made))]
 pub(crate) fn last_extent(alloc: Global, row: &mut Row) -> Result<Part, Mem>
-    ensures made { (i : ℕ) → IfOk result (λ part. part ≡ made form.Extents i (firsts 1 row.old)) }
+    ensures made { IfOk result (λ part. part ≡ made form.Extents 0 (firsts 1 row.old)) }
     ensures rest { IfOk result (λ _. row.new ≡ past 1 row.old) }
 {
     let last = i128::from(row.next().number());
@@ -251,7 +247,7 @@ pub(crate) fn last_extent(alloc: Global, row: &mut Row) -> Result<Part, Mem>
 /// `%a, %b : T, U`
 #[tactic(auto, unfolding(crate::specs::Meaning::made))]
 pub(crate) fn returned(alloc: Global, row: &mut Row) -> Part
-    ensures made { (i : ℕ) → result ≡ made form.Returned i (firsts 3 row.old) }
+    ensures made { result ≡ made form.Returned 0 (firsts 3 row.old) }
     ensures rest { row.new ≡ past 3 row.old }
 {
     let values = row.next().ids(alloc).into_items();
@@ -263,7 +259,7 @@ pub(crate) fn returned(alloc: Global, row: &mut Row) -> Part
 /// `ins(%a, %b : T, U)`
 #[tactic(auto, unfolding(crate::specs::Meaning::made))]
 pub(crate) fn ins(alloc: Global, row: &mut Row) -> Part
-    ensures made { (i : ℕ) → result ≡ made form.Ins i (firsts 6 row.old) }
+    ensures made { result ≡ made form.Ins 0 (firsts 6 row.old) }
     ensures rest { row.new ≡ past 6 row.old }
 {
     row.skip(2);
@@ -277,7 +273,7 @@ pub(crate) fn ins(alloc: Global, row: &mut Row) -> Part
 /// `outs(%a : T)`
 #[tactic(auto, unfolding(crate::specs::Meaning::made))]
 pub(crate) fn outs(alloc: Global, row: &mut Row) -> Part
-    ensures made { (i : ℕ) → result ≡ made form.Outs i (firsts 6 row.old) }
+    ensures made { result ≡ made form.Outs 0 (firsts 6 row.old) }
     ensures rest { row.new ≡ past 6 row.old }
 {
     row.skip(2);
@@ -286,4 +282,14 @@ pub(crate) fn outs(alloc: Global, row: &mut Row) -> Part
     let types = row.next().types(alloc).into_items();
     row.skip(1);
     Part::Operands(Operands { values, types })
+}
+
+/// No operands
+pub(crate) fn no_operands(alloc: Global) -> Part
+    ensures { result ≡ operands_of [] [] }
+{
+    Part::Operands(Operands {
+        values: Items::new(alloc),
+        types: Items::new(alloc),
+    })
 }

@@ -1,4 +1,4 @@
-ghost use Rattle.std.specs.Prelude.{◌≡◌, ℕ, IfOk};
+ghost use Rattle.std.specs.Prelude.{◌≡◌, IfOk};
 ghost use Rattle.sh_grammar.specs.declared.forms.Form.TheVariants as form;
 ghost use Rattle.sh_parse.specs.Meaning.{defining as op_of_side, defining_in_body as op_of_arith, made, op_kind_of, selecting, side_of as side_of_part};
 ghost use Rattle.sh_ir.specs.Written.{test_type as type_of_test};
@@ -7,11 +7,11 @@ ghost use Rattle.sh_parse.specs.Rows.{firsts, past};
 use crate::boxed::Boxed;
 use crate::parts::{BodyTail, Mark, Part};
 use crate::readings::discard;
-use crate::rests::Rest;
 use crate::row::Row;
 use crate::sides::{arith, side, three_operands, two_operands};
 use sh_base::{Duplicate, Ids, Mem, Width};
 use sh_ir::{BodyKind, BodyOp, Compare, Op, OpKind, Return, Select, TensorType, ValueType};
+use sh_literals::Rest;
 use std::alloc::Global;
 
 /// A region's operation as one of a function.
@@ -91,8 +91,7 @@ fn defining_in_body(alloc: Global, name: Mark, part: Part) -> Result<Part, Mem>
 /// `%r = ..`
 #[tactic(auto, unfolding(crate::specs::Meaning::made))]
 pub(crate) fn operation(alloc: Global, row: &mut Row) -> Result<Part, Mem>
-    ensures made { (i : ℕ) → IfOk result (λ part.
-        part ≡ made form.Operation i (firsts 3 row.old)) }
+    ensures made { IfOk result (λ part. part ≡ made form.Operation 0 (firsts 3 row.old)) }
     ensures rest { IfOk result (λ _. row.new ≡ past 3 row.old) }
 {
     let name = row.next().mark();
@@ -104,8 +103,7 @@ pub(crate) fn operation(alloc: Global, row: &mut Row) -> Result<Part, Mem>
 /// `%r = ..` in a region
 #[tactic(auto, unfolding(crate::specs::Meaning::made))]
 pub(crate) fn body_operation(alloc: Global, row: &mut Row) -> Result<Part, Mem>
-    ensures made { (i : ℕ) → IfOk result (λ part.
-        part ≡ made form.BodyOperation i (firsts 3 row.old)) }
+    ensures made { IfOk result (λ part. part ≡ made form.BodyOperation 0 (firsts 3 row.old)) }
     ensures rest { IfOk result (λ _. row.new ≡ past 3 row.old) }
 {
     let name = row.next().mark();
@@ -117,8 +115,7 @@ pub(crate) fn body_operation(alloc: Global, row: &mut Row) -> Result<Part, Mem>
 /// The operations of a function
 #[tactic(auto, unfolding(crate::specs::Meaning::made))]
 pub(crate) fn operations(alloc: Global, row: &mut Row) -> Result<Part, Mem>
-    ensures made { (i : ℕ) → IfOk result (λ part.
-        part ≡ made form.Operations i (firsts 2 row.old)) }
+    ensures made { IfOk result (λ part. part ≡ made form.Operations 0 (firsts 2 row.old)) }
     ensures rest { IfOk result (λ _. row.new ≡ past 2 row.old) }
 {
     let first = row.next().op();
@@ -129,8 +126,7 @@ pub(crate) fn operations(alloc: Global, row: &mut Row) -> Result<Part, Mem>
 /// The return of a function
 #[tactic(auto, unfolding(crate::specs::Meaning::made))]
 pub(crate) fn last_operation(alloc: Global, row: &mut Row) -> Result<Part, Mem>
-    ensures made { (i : ℕ) → IfOk result (λ part.
-        part ≡ made form.Operations i (firsts 1 row.old)) }
+    ensures made { IfOk result (λ part. part ≡ made form.Operations 0 (firsts 1 row.old)) }
     ensures rest { IfOk result (λ _. row.new ≡ past 1 row.old) }
 {
     let last = row.next().op();
@@ -141,7 +137,7 @@ pub(crate) fn last_operation(alloc: Global, row: &mut Row) -> Result<Part, Mem>
 /// `return %a : T`
 #[tactic(auto, unfolding(crate::specs::Meaning::made))]
 pub(crate) fn return_op(alloc: Global, row: &mut Row) -> Result<Part, Mem>
-    ensures made { (i : ℕ) → IfOk result (λ part. part ≡ made form.Return i (firsts 2 row.old)) }
+    ensures made { IfOk result (λ part. part ≡ made form.Return 0 (firsts 2 row.old)) }
     ensures rest { IfOk result (λ _. row.new ≡ past 2 row.old) }
 {
     let place = row.next().mark().place;
@@ -161,7 +157,7 @@ pub(crate) fn return_op(alloc: Global, row: &mut Row) -> Result<Part, Mem>
 /// `arith.cmpi PREDICATE, %a, %b : T`
 #[tactic(auto, unfolding(crate::specs::Meaning::made))]
 pub(crate) fn compare(alloc: Global, row: &mut Row) -> Result<Part, Mem>
-    ensures made { (i : ℕ) → IfOk result (λ part. part ≡ made form.Compare i (firsts 8 row.old)) }
+    ensures made { IfOk result (λ part. part ≡ made form.Compare 0 (firsts 8 row.old)) }
     ensures rest { IfOk result (λ _. row.new ≡ past 8 row.old) }
 {
     row.skip(1);
@@ -183,7 +179,7 @@ pub(crate) fn compare(alloc: Global, row: &mut Row) -> Result<Part, Mem>
 /// `arith.select %c, %a, %b : T, U`
 #[tactic(auto, unfolding(crate::specs::Meaning::made))]
 pub(crate) fn select(alloc: Global, row: &mut Row) -> Result<Part, Mem>
-    ensures made { (i : ℕ) → IfOk result (λ part. part ≡ made form.Select i (firsts 9 row.old)) }
+    ensures made { IfOk result (λ part. part ≡ made form.Select 0 (firsts 9 row.old)) }
     ensures rest { IfOk result (λ _. row.new ≡ past 9 row.old) }
 {
     row.skip(1);
@@ -238,7 +234,7 @@ fn test_type(alloc: Global, value_type: &ValueType) -> Result<ValueType, Mem>
 /// `linalg.yield %v : i32`
 #[tactic(auto, unfolding(crate::specs::Meaning::made))]
 pub(crate) fn yield_op(alloc: Global, row: &mut Row) -> Part
-    ensures made { (i : ℕ) → result ≡ made form.Yield i (firsts 4 row.old) }
+    ensures made { result ≡ made form.Yield 0 (firsts 4 row.old) }
     ensures rest { row.new ≡ past 4 row.old }
 {
     let place = row.next().mark().place;
@@ -256,7 +252,7 @@ pub(crate) fn yield_op(alloc: Global, row: &mut Row) -> Part
 /// The operations of a region
 #[tactic(auto, unfolding(crate::specs::Meaning::made))]
 pub(crate) fn body(alloc: Global, row: &mut Row) -> Result<Part, Mem>
-    ensures made { (i : ℕ) → IfOk result (λ part. part ≡ made form.Body i (firsts 2 row.old)) }
+    ensures made { IfOk result (λ part. part ≡ made form.Body 0 (firsts 2 row.old)) }
     ensures rest { IfOk result (λ _. row.new ≡ past 2 row.old) }
 {
     let first = row.next().body_op();

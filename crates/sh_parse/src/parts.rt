@@ -1,11 +1,10 @@
 use crate::boxed::Boxed;
-use crate::literals::Literal;
-use crate::rests::Rest;
 use sh_base::{BinOp, CastOp, Ids, Kind, Numbers, Place, Predicate, Text, Width};
 use sh_ir::{
     AffineMap, Arg, BodyKind, BodyOp, CallItem, Carry, Constant, Cut, Dim, Func, GridAxes,
     GridItem, IteratorType, Module, Op, OpKind, Types, ValueType,
 };
+use sh_literals::{Literal, Rest};
 
 /// Where a word, a sign or a value's name stands.
 #[derive(Clone, Copy)]

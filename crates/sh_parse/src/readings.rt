@@ -42,11 +42,10 @@ ghost use Rattle.sh_parse.specs.Readings.{
   width_in,
 };
 
-use crate::literals::Literal;
 use crate::parts::{Alias, BodyTail, Combiner, Contents, Mark, Operands, Part, StructuredName};
-use crate::rests::Rest;
 use sh_base::{BinOp, CastOp, Items, Kind, Numbers, Place, Predicate, Text, Width};
 use sh_ir::{AffineMap, Arg, BodyOp, Constant, Cut, Dim, GridAxes, IteratorType, Op, ValueType};
+use sh_literals::{Literal, Rest};
 use std::alloc::Global;
 
 /// Where nothing stands.

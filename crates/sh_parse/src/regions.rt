@@ -7,10 +7,10 @@ ghost use Rattle.sh_parse.specs.Meaning.{
 };
 
 use crate::parts::{BodyTail, Mark};
-use crate::rests::Rest;
 use crate::sides::two_operands;
 use sh_base::{BinOp, Ids, Items, Mem, Width, Widths};
 use sh_ir::{Arg, Args, Body, BodyKind, BodyOp, ValueType};
+use sh_literals::Rest;
 use std::alloc::Global;
 
 /// The width of a type's cells; `i1` where it has none.

@@ -1,4 +1,4 @@
-ghost use Rattle.std.specs.Prelude.{◌≡◌, ℕ, IfOk};
+ghost use Rattle.std.specs.Prelude.{◌≡◌, IfOk};
 ghost use Rattle.sh_grammar.specs.declared.forms.Form.TheVariants as form;
 ghost use Rattle.sh_parse.specs.Meaning.{made};
 ghost use Rattle.sh_parse.specs.Rows.{firsts, past};
@@ -16,7 +16,7 @@ use std::alloc::Global;
 /// `shard.shard %a to %s annotate_for_users : T`
 #[tactic(auto, unfolding(crate::specs::Meaning::made))]
 pub(crate) fn shard(alloc: Global, row: &mut Row) -> Result<Part, Mem>
-    ensures made { (i : ℕ) → IfOk result (λ part. part ≡ made form.Shard i (firsts 7 row.old)) }
+    ensures made { IfOk result (λ part. part ≡ made form.Shard 0 (firsts 7 row.old)) }
     ensures rest { IfOk result (λ _. row.new ≡ past 7 row.old) }
 {
     row.skip(1);
@@ -33,8 +33,7 @@ pub(crate) fn shard(alloc: Global, row: &mut Row) -> Result<Part, Mem>
 /// `shard.all_gather %a on gather_axis = N : T -> U`
 #[tactic(auto, unfolding(crate::specs::Meaning::made))]
 pub(crate) fn all_gather(alloc: Global, row: &mut Row) -> Result<Part, Mem>
-    ensures made { (i : ℕ) → IfOk result (λ part.
-        part ≡ made form.AllGather i (firsts 10 row.old)) }
+    ensures made { IfOk result (λ part. part ≡ made form.AllGather 0 (firsts 10 row.old)) }
     ensures rest { IfOk result (λ _. row.new ≡ past 10 row.old) }
 {
     row.skip(1);
@@ -57,8 +56,7 @@ pub(crate) fn all_gather(alloc: Global, row: &mut Row) -> Result<Part, Mem>
 /// `shard.all_slice %a on slice_axis = N : T -> U`
 #[tactic(auto, unfolding(crate::specs::Meaning::made))]
 pub(crate) fn all_slice(alloc: Global, row: &mut Row) -> Result<Part, Mem>
-    ensures made { (i : ℕ) → IfOk result (λ part.
-        part ≡ made form.AllSlice i (firsts 10 row.old)) }
+    ensures made { IfOk result (λ part. part ≡ made form.AllSlice 0 (firsts 10 row.old)) }
     ensures rest { IfOk result (λ _. row.new ≡ past 10 row.old) }
 {
     row.skip(1);
@@ -81,8 +79,7 @@ pub(crate) fn all_slice(alloc: Global, row: &mut Row) -> Result<Part, Mem>
 /// `shard.all_reduce %a on reduction = KIND : T -> U`
 #[tactic(auto, unfolding(crate::specs::Meaning::made))]
 pub(crate) fn all_reduce(alloc: Global, row: &mut Row) -> Result<Part, Mem>
-    ensures made { (i : ℕ) → IfOk result (λ part.
-        part ≡ made form.AllReduce i (firsts 8 row.old)) }
+    ensures made { IfOk result (λ part. part ≡ made form.AllReduce 0 (firsts 8 row.old)) }
     ensures rest { IfOk result (λ _. row.new ≡ past 8 row.old) }
 {
     row.skip(1);
@@ -104,8 +101,7 @@ pub(crate) fn all_reduce(alloc: Global, row: &mut Row) -> Result<Part, Mem>
 /// `shard.reduce_scatter %a on reduction = KIND scatter_axis = N : T -> U`
 #[tactic(auto, unfolding(crate::specs::Meaning::made))]
 pub(crate) fn reduce_scatter(alloc: Global, row: &mut Row) -> Result<Part, Mem>
-    ensures made { (i : ℕ) → IfOk result (λ part.
-        part ≡ made form.ReduceScatter i (firsts 11 row.old)) }
+    ensures made { IfOk result (λ part. part ≡ made form.ReduceScatter 0 (firsts 11 row.old)) }
     ensures rest { IfOk result (λ _. row.new ≡ past 11 row.old) }
 {
     row.skip(1);
@@ -130,8 +126,7 @@ pub(crate) fn reduce_scatter(alloc: Global, row: &mut Row) -> Result<Part, Mem>
 /// `shard.all_to_all %a on split_axis = N concat_axis = M : T -> U`
 #[tactic(auto, unfolding(crate::specs::Meaning::made))]
 pub(crate) fn all_to_all(alloc: Global, row: &mut Row) -> Result<Part, Mem>
-    ensures made { (i : ℕ) → IfOk result (λ part.
-        part ≡ made form.AllToAll i (firsts 13 row.old)) }
+    ensures made { IfOk result (λ part. part ≡ made form.AllToAll 0 (firsts 13 row.old)) }
     ensures rest { IfOk result (λ _. row.new ≡ past 13 row.old) }
 {
     row.skip(1);
@@ -157,7 +152,7 @@ pub(crate) fn all_to_all(alloc: Global, row: &mut Row) -> Result<Part, Mem>
 /// `shard.shift %a on shift_axis = N offset = num rotate : T -> U`
 #[tactic(auto, unfolding(crate::specs::Meaning::made))]
 pub(crate) fn shift(alloc: Global, row: &mut Row) -> Result<Part, Mem>
-    ensures made { (i : ℕ) → IfOk result (λ part. part ≡ made form.Shift i (firsts 14 row.old)) }
+    ensures made { IfOk result (λ part. part ≡ made form.Shift 0 (firsts 14 row.old)) }
     ensures rest { IfOk result (λ _. row.new ≡ past 14 row.old) }
 {
     row.skip(1);
@@ -185,7 +180,7 @@ pub(crate) fn shift(alloc: Global, row: &mut Row) -> Result<Part, Mem>
 /// `shardrun.take %a on axis = N starts = nums sizes = nums : T -> U`
 #[tactic(auto, unfolding(crate::specs::Meaning::made))]
 pub(crate) fn take(alloc: Global, row: &mut Row) -> Result<Part, Mem>
-    ensures made { (i : ℕ) → IfOk result (λ part. part ≡ made form.Take i (firsts 16 row.old)) }
+    ensures made { IfOk result (λ part. part ≡ made form.Take 0 (firsts 16 row.old)) }
     ensures rest { IfOk result (λ _. row.new ≡ past 16 row.old) }
 {
     row.skip(1);
@@ -214,8 +209,7 @@ pub(crate) fn take(alloc: Global, row: &mut Row) -> Result<Part, Mem>
 /// `shard.update_halo %a on @grid split_axes = lists halo_sizes = nums : T`
 #[tactic(auto, unfolding(crate::specs::Meaning::made))]
 pub(crate) fn update_halo(alloc: Global, row: &mut Row) -> Result<Part, Mem>
-    ensures made { (i : ℕ) → IfOk result (λ part.
-        part ≡ made form.UpdateHalo i (firsts 10 row.old)) }
+    ensures made { IfOk result (λ part. part ≡ made form.UpdateHalo 0 (firsts 10 row.old)) }
     ensures rest { IfOk result (λ _. row.new ≡ past 10 row.old) }
 {
     row.skip(1);
@@ -238,7 +232,7 @@ pub(crate) fn update_halo(alloc: Global, row: &mut Row) -> Result<Part, Mem>
 /// `shardrun.pad %a low = nums high = nums : T -> U`
 #[tactic(auto, unfolding(crate::specs::Meaning::made))]
 pub(crate) fn pad(alloc: Global, row: &mut Row) -> Result<Part, Mem>
-    ensures made { (i : ℕ) → IfOk result (λ part. part ≡ made form.Pad i (firsts 12 row.old)) }
+    ensures made { IfOk result (λ part. part ≡ made form.Pad 0 (firsts 12 row.old)) }
     ensures rest { IfOk result (λ _. row.new ≡ past 12 row.old) }
 {
     row.skip(1);
@@ -262,7 +256,7 @@ pub(crate) fn pad(alloc: Global, row: &mut Row) -> Result<Part, Mem>
 /// `shardrun.join %a, %b axis = N : T, U -> V`
 #[tactic(auto, unfolding(crate::specs::Meaning::made))]
 pub(crate) fn join(alloc: Global, row: &mut Row) -> Result<Part, Mem>
-    ensures made { (i : ℕ) → IfOk result (λ part. part ≡ made form.Join i (firsts 9 row.old)) }
+    ensures made { IfOk result (λ part. part ≡ made form.Join 0 (firsts 9 row.old)) }
     ensures rest { IfOk result (λ _. row.new ≡ past 9 row.old) }
 {
     row.skip(1);

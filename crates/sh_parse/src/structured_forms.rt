@@ -1,4 +1,4 @@
-ghost use Rattle.std.specs.Prelude.{◌≡◌, ◌++◌, ℕ, IfOk};
+ghost use Rattle.std.specs.Prelude.{◌≡◌, ◌++◌, IfOk};
 ghost use Rattle.sh_grammar.specs.declared.forms.Form.TheVariants as form;
 ghost use Rattle.sh_ir.specs.Written.{first_type as first_type_of};
 ghost use Rattle.sh_parse.specs.Meaning.{
@@ -75,8 +75,7 @@ fn structured_kind(name: StructuredName, written: InsOuts) -> OpKind
 /// `linalg.NAME ins(..) outs(..) -> T`
 #[tactic(auto, unfolding(crate::specs::Meaning::made))]
 pub(crate) fn structured(alloc: Global, row: &mut Row) -> Result<Part, Mem>
-    ensures made { (i : ℕ) → IfOk result (λ part.
-        part ≡ made form.Structured i (firsts 5 row.old)) }
+    ensures made { IfOk result (λ part. part ≡ made form.Structured 0 (firsts 5 row.old)) }
     ensures rest { IfOk result (λ _. row.new ≡ past 5 row.old) }
 {
     let name = row.next().structured();
@@ -92,8 +91,7 @@ pub(crate) fn structured(alloc: Global, row: &mut Row) -> Result<Part, Mem>
 /// `linalg.transpose ins(%a : T) outs(%b : U) permutation = nums`
 #[tactic(auto, unfolding(crate::specs::Meaning::made))]
 pub(crate) fn transpose(alloc: Global, row: &mut Row) -> Result<Part, Mem>
-    ensures made { (i : ℕ) → IfOk result (λ part.
-        part ≡ made form.Transpose i (firsts 6 row.old)) }
+    ensures made { IfOk result (λ part. part ≡ made form.Transpose 0 (firsts 6 row.old)) }
     ensures rest { IfOk result (λ _. row.new ≡ past 6 row.old) }
 {
     row.skip(1);
@@ -114,8 +112,7 @@ pub(crate) fn transpose(alloc: Global, row: &mut Row) -> Result<Part, Mem>
 /// `linalg.broadcast ins(%a : T) outs(%b : U) dimensions = nums`
 #[tactic(auto, unfolding(crate::specs::Meaning::made))]
 pub(crate) fn broadcast(alloc: Global, row: &mut Row) -> Result<Part, Mem>
-    ensures made { (i : ℕ) → IfOk result (λ part.
-        part ≡ made form.Broadcast i (firsts 6 row.old)) }
+    ensures made { IfOk result (λ part. part ≡ made form.Broadcast 0 (firsts 6 row.old)) }
     ensures rest { IfOk result (λ _. row.new ≡ past 6 row.old) }
 {
     row.skip(1);

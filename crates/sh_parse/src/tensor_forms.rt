@@ -1,4 +1,4 @@
-ghost use Rattle.std.specs.Prelude.{◌≡◌, ℕ, IfOk};
+ghost use Rattle.std.specs.Prelude.{◌≡◌, IfOk};
 ghost use Rattle.sh_grammar.specs.declared.forms.Form.TheVariants as form;
 ghost use Rattle.sh_parse.specs.Meaning.{made, slice_of};
 ghost use Rattle.sh_parse.specs.Rows.{first_part, firsts, past};
@@ -16,8 +16,7 @@ use std::alloc::Global;
 /// `tensor.empty() : T`
 #[tactic(auto, unfolding(crate::specs::Meaning::made))]
 pub(crate) fn empty_tensor(alloc: Global, row: &mut Row) -> Result<Part, Mem>
-    ensures made { (i : ℕ) → IfOk result (λ part.
-        part ≡ made form.EmptyTensor i (firsts 5 row.old)) }
+    ensures made { IfOk result (λ part. part ≡ made form.EmptyTensor 0 (firsts 5 row.old)) }
     ensures rest { IfOk result (λ _. row.new ≡ past 5 row.old) }
 {
     row.skip(4);
@@ -44,8 +43,7 @@ fn slice(alloc: Global, row: &mut Row) -> Slice
 /// `tensor.extract_slice %a OFFSETS SIZES STRIDES : T to U`
 #[tactic(auto, unfolding(crate::specs::Meaning::made))]
 pub(crate) fn extract_slice(alloc: Global, row: &mut Row) -> Result<Part, Mem>
-    ensures made { (i : ℕ) → IfOk result (λ part.
-        part ≡ made form.ExtractSlice i (firsts 9 row.old)) }
+    ensures made { IfOk result (λ part. part ≡ made form.ExtractSlice 0 (firsts 9 row.old)) }
     ensures rest { IfOk result (λ _. row.new ≡ past 9 row.old) }
 {
     row.skip(1);
@@ -62,8 +60,7 @@ pub(crate) fn extract_slice(alloc: Global, row: &mut Row) -> Result<Part, Mem>
 /// `tensor.insert_slice %a into %b OFFSETS SIZES STRIDES : T into U`
 #[tactic(auto, unfolding(crate::specs::Meaning::made))]
 pub(crate) fn insert_slice(alloc: Global, row: &mut Row) -> Result<Part, Mem>
-    ensures made { (i : ℕ) → IfOk result (λ part.
-        part ≡ made form.InsertSlice i (firsts 11 row.old)) }
+    ensures made { IfOk result (λ part. part ≡ made form.InsertSlice 0 (firsts 11 row.old)) }
     ensures rest { IfOk result (λ _. row.new ≡ past 11 row.old) }
 {
     row.skip(1);
@@ -82,8 +79,7 @@ pub(crate) fn insert_slice(alloc: Global, row: &mut Row) -> Result<Part, Mem>
 /// `tensor.collapse_shape %a lists : T into U`
 #[tactic(auto, unfolding(crate::specs::Meaning::made))]
 pub(crate) fn collapse_shape(alloc: Global, row: &mut Row) -> Result<Part, Mem>
-    ensures made { (i : ℕ) → IfOk result (λ part.
-        part ≡ made form.CollapseShape i (firsts 7 row.old)) }
+    ensures made { IfOk result (λ part. part ≡ made form.CollapseShape 0 (firsts 7 row.old)) }
     ensures rest { IfOk result (λ _. row.new ≡ past 7 row.old) }
 {
     row.skip(1);
@@ -103,8 +99,7 @@ pub(crate) fn collapse_shape(alloc: Global, row: &mut Row) -> Result<Part, Mem>
 /// `tensor.expand_shape %a lists output_shape nums : T into U`
 #[tactic(auto, unfolding(crate::specs::Meaning::made))]
 pub(crate) fn expand_shape(alloc: Global, row: &mut Row) -> Result<Part, Mem>
-    ensures made { (i : ℕ) → IfOk result (λ part.
-        part ≡ made form.ExpandShape i (firsts 9 row.old)) }
+    ensures made { IfOk result (λ part. part ≡ made form.ExpandShape 0 (firsts 9 row.old)) }
     ensures rest { IfOk result (λ _. row.new ≡ past 9 row.old) }
 {
     row.skip(1);
@@ -127,7 +122,7 @@ pub(crate) fn expand_shape(alloc: Global, row: &mut Row) -> Result<Part, Mem>
 /// `shard.sharding @grid split_axes = lists : !shard.sharding`
 #[tactic(auto, unfolding(crate::specs::Meaning::made))]
 pub(crate) fn sharding(alloc: Global, row: &mut Row) -> Result<Part, Mem>
-    ensures made { (i : ℕ) → IfOk result (λ part. part ≡ made form.Sharding i (firsts 9 row.old)) }
+    ensures made { IfOk result (λ part. part ≡ made form.Sharding 0 (firsts 9 row.old)) }
     ensures rest { IfOk result (λ _. row.new ≡ past 9 row.old) }
 {
     row.skip(1);
@@ -149,7 +144,7 @@ pub(crate) fn sharding(alloc: Global, row: &mut Row) -> Result<Part, Mem>
 /// `call @f(%a, %b) : (T, U) -> V`
 #[tactic(auto, unfolding(crate::specs::Meaning::made))]
 pub(crate) fn call(alloc: Global, row: &mut Row) -> Result<Part, Mem>
-    ensures made { (i : ℕ) → IfOk result (λ part. part ≡ made form.Call i (firsts 11 row.old)) }
+    ensures made { IfOk result (λ part. part ≡ made form.Call 0 (firsts 11 row.old)) }
     ensures rest { IfOk result (λ _. row.new ≡ past 11 row.old) }
 {
     row.skip(1);

@@ -1,6 +1,6 @@
 -- What a literal holds, by its type.
-use Rattle.std.specs.Prelude.{◌≡◌, ℕ, zero, suc, ◌+◌, ◌-◌, ◌*◌, ◌/◌, ◌%◌, ◌^◌, ℤ, pos, negsuc, List, [], ◌∷◌, ◌++◌, map, take, drop, length, reverse, fold, Option, Some, None, option_map, option_and_then, unwrap_or, Bool, true, false, not, ◌&&◌, ◌||◌, nat_eq, nat_le, nat_lt, if◌then◌else◌, codes}
-use Rattle.std.specs.List.{list_any, list_all, starts_with, range_with_len}
+use Rattle.std.specs.Prelude.{ℕ, suc, ◌+◌, ◌-◌, ◌*◌, ◌/◌, ◌%◌, ◌^◌, ℤ, pos, List, [], ◌∷◌, ◌++◌, map, take, drop, length, slice_get, int_lt, unsigned_abs, Option, Some, None, option_map, option_and_then, Bool, true, false, ◌&&◌, ◌||◌, nat_eq, nat_le, nat_lt, if◌then◌else◌, codes}
+use Rattle.std.specs.List.{list_any, starts_with, range_with_len}
 use Rattle.std.specs.Option.{option_map_or}
 use Rattle.std.specs.Cmp.Lexicographic.{pointwise}
 use Rattle.sh_base.specs.Cells.{bits_of}
@@ -13,15 +13,15 @@ use Rattle.sh_ir.specs.declared.arith_ops.Constant.{Constant}
 use Rattle.sh_ir.specs.declared.arith_ops.Contents.{Contents}
 use Rattle.sh_ir.specs.declared.arith_ops.Contents.TheVariants.{Held, Broken}
 use Rattle.sh_ir.specs.declared.types.Dim.{Dim}
-use Rattle.sh_ir.specs.declared.types.Dim.TheVariants.{Known, Differs}
+use Rattle.sh_ir.specs.declared.types.Dim.TheVariants.{Known}
 use Rattle.sh_ir.specs.declared.types.TensorType.{TensorType}
 use Rattle.sh_ir.specs.declared.types.ValueType.{ValueType}
 use Rattle.sh_ir.specs.declared.types.ValueType.TheVariants.{Nothing, Scalar, Tensor, Sharding, Index}
-use Rattle.sh_parse.specs.declared.literals.Element.{Element}
-use Rattle.sh_parse.specs.declared.literals.Element.TheVariants.{Number, Truth}
-use Rattle.sh_parse.specs.declared.literals.Literal.{Literal}
-use Rattle.sh_parse.specs.declared.literals.Literal.TheVariants.{Empty, Nested, Ragged, Quoted}
-use Rattle.sh_parse.specs.declared.literals.Nested as nested
+use Rattle.sh_literals.specs.declared.literals.Element.{Element}
+use Rattle.sh_literals.specs.declared.literals.Element.TheVariants.{Number, Truth}
+use Rattle.sh_literals.specs.declared.literals.Literal.{Literal}
+use Rattle.sh_literals.specs.declared.literals.Literal.TheVariants.{Empty, Nested, Ragged, Quoted}
+use Rattle.sh_literals.specs.declared.literals.Nested as nested
 
 -- ## Lists in lists
 
@@ -39,18 +39,28 @@ list_of item items count extents =
     then Nested (record { extents = suc count ∷ item.extents; elements = item.elements ++ items.elements })
     else Ragged
 
+-- the same, where the list has so many items, or is no list
+abbrev pub list_in_front : nested.Nested → nested.Nested → Option ℕ → Literal
+list_in_front item items None = Ragged
+list_in_front item items (Some count) = list_of item items count (drop 1 items.extents)
+
 abbrev pub in_front : Literal → Literal → Literal
-in_front (Nested item) (Nested items) =
-    elim items.extents [ [] ↦ Ragged | count ∷ extents ↦ list_of item items count extents ]
+in_front (Nested item) (Nested items) = list_in_front item items (slice_get items.extents 0)
 in_front _ _ = Ragged
 
 -- ## Cells
 
+-- so much below zero: at most half of two to the width
+abbrev pub below_zero : Width → ℕ → Option Cell
+below_zero w n = if nat_le n (2 ^ (bits_of w - 1)) then Some (Val (2 ^ bits_of w - n)) else None
+
+abbrev pub from_zero : Width → ℕ → Option Cell
+from_zero w n = if nat_lt n (2 ^ bits_of w) then Some (Val n) else None
+
 -- a number from minus half of two to the width on, and below two to the width, taken modulo that
 abbrev pub number_cell : Width → ℤ → Option Cell
-number_cell w (pos n) = if nat_lt n (2 ^ bits_of w) then Some (Val n) else None
-number_cell w (negsuc n) =
-    if nat_le (n + 1) (2 ^ (bits_of w - 1)) then Some (Val (2 ^ bits_of w - (n + 1))) else None
+number_cell w z =
+    if int_lt z (pos 0) then below_zero w (unsigned_abs z) else from_zero w (unsigned_abs z)
 
 -- `true` and `false` are of `i1` alone
 abbrev pub truth_cell : Width → Bool → Option Cell
@@ -100,7 +110,8 @@ bytes_of text =
 
 -- the number whose bytes these are, the low one first
 abbrev pub little_endian : List ℕ → ℕ
-little_endian bytes = fold (λ n byte. n * 256 + byte) 0 (reverse bytes)
+little_endian [] = 0
+little_endian (byte ∷ bytes) = little_endian bytes * 256 + byte
 
 -- the cells of so many bytes each
 abbrev pub cells_of_bytes : ℕ → List ℕ → Option (List Cell)

@@ -1,5 +1,6 @@
-ghost use Rattle.std.specs.Prelude.{◌≡◌, [], ◌∷◌, IfOk, length, slice_get};
-ghost use Rattle.sh_parse.specs.Fronts.{before};
+ghost use Rattle.std.specs.Prelude.{◌≡◌, [], ◌∷◌, ◌++◌, IfOk, drop, length, nat_eq, slice_get};
+ghost use Rattle.std.specs.Cmp.Lexicographic.{pointwise};
+ghost use Rattle.sh_literals.specs.Fronts.{before};
 
 use sh_base::{Items, Mem};
 use std::alloc::Global;
@@ -59,6 +60,27 @@ impl<T: Drop> Rest<T> {
         items.into_iter().next()
     }
 
+    /// Takes the first element, where there is one.
+    pub fn take_first(&mut self) -> Option<T>
+        ensures first { result ≡ slice_get self.old 0 }
+        ensures rest { self.new ≡ drop 1 self.old }
+    {
+        self.backwards.pop()
+    }
+
+    /// The list behind another.
+    pub fn behind(self, front: Rest<T>) -> Result<Rest<T>, Mem>
+        ensures { IfOk result (λ rest. rest ≡ front ++ self) }
+    {
+        if self.backwards.is_empty() {
+            return Ok(front);
+        }
+        let mut backwards = self.backwards;
+        let mut front = front.backwards;
+        backwards.append(&mut front)?;
+        Ok(Rest { backwards })
+    }
+
     /// The list with one more element in front.
     pub fn before(self, item: T) -> Result<Rest<T>, Mem>
         ensures { IfOk result (λ rest. rest ≡ item ∷ self) }
@@ -75,5 +97,15 @@ impl<T: Drop> Rest<T> {
             None => Ok(self),
             Some(item) => self.before(item),
         }
+    }
+}
+
+impl Rest<u64> {
+    /// Whether the lists are equal.
+    #[tactic(auto, using(crate::proofs::Reversed::same_reversed))]
+    pub fn same(&self, other: &Rest<u64>) -> bool
+        ensures { result ≡ pointwise nat_eq self.now other.now }
+    {
+        self.backwards == other.backwards
     }
 }

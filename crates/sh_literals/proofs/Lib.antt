@@ -1,0 +1,5 @@
+mod Bytes
+mod Counts
+mod Ended
+mod Reversed
+mod Wholes
