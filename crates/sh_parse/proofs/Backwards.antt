@@ -1,12 +1,12 @@
 -- The parts that are made from the steps of a tree, from the last to the first, are those that the tree
 -- stands for.
-use Rattle.std.proofs.Common.{◌≡◌, ℕ, suc, ◌+◌, List, [], ◌∷◌, ◌++◌, length, drop, refl, ◌∙◌, ap, sym, append_assoc, length-append, drop-drop}
+use Rattle.std.proofs.Common.{◌≡◌, ℕ, suc, List, [], ◌∷◌, ◌++◌, length, drop, refl, ◌∙◌, ap, sym, append_assoc, length-append, drop-drop}
 use Rattle.std.proofs.Math.Seq.{drop-nil}
 use Rattle.sh_grammar.specs.Grammar.{Trees, events, size, tokens}
 use Rattle.sh_grammar.specs.Grammar.Trees.{nothing, token, form}
 use Rattle.sh_grammar.specs.declared.forms.Form.{Form}
 use Rattle.sh_grammar.specs.declared.symbols.Event.{Event}
-use Rattle.sh_grammar.specs.declared.symbols.Event.TheVariants.{Took, Opened}
+use Rattle.sh_grammar.specs.declared.symbols.Event.TheVariants.{Opened}
 use Rattle.sh_parse.specs.Building.{made_of, parts_by}
 use Rattle.sh_parse.specs.Meaning.{made}
 use Rattle.sh_parse.specs.Reads.{parts_of}

@@ -1,11 +1,9 @@
 -- A text stands for at most one module: it has one list of tokens, and these have one tree.
 use Rattle.std.proofs.Common.{◌≡◌, ℕ, List, ◌∙◌, ap, sym, subst}
-use Rattle.sh_grammar.specs.Grammar.{Trees}
 use Rattle.sh_grammar.specs.Lexemes.{Lexeme, lexemes}
 use Rattle.sh_grammar.proofs.OneLanguage.{only_tree}
 use Rattle.sh_ir.specs.declared.modules.Module.{Module}
 use Rattle.sh_lex.proofs.Uniqueness.{same_tokens}
-use Rattle.sh_lex.specs.declared.tokens.Token.{Token}
 use Rattle.sh_parse.specs.Reads.{Reads, TokensRead, file_part}
 use Rattle.sh_parse.specs.declared.parts.Part.{Part}
 use Rattle.sh_parse.specs.declared.parts.Part.TheVariants as part

@@ -1,7 +1,7 @@
 -- What each form stands for, in the order of the grammar in Language.antt of sh_grammar. A clause
 -- names the parts of one alternative, and says what they become. Alternatives are told apart by their
 -- parts, or by their numbers where they have as many.
-use Rattle.std.specs.Prelude.{ℕ, ◌+◌, ℤ, pos, neg_ℤ, List, [], ◌∷◌, ◌++◌, length, map, get_or, slice_get, unwrap_or, Option, Some, None, Bool, true, false, nat_eq, codes, if◌then◌else◌}
+use Rattle.std.specs.Prelude.{ℕ, ◌+◌, ℤ, pos, neg_ℤ, List, [], ◌∷◌, ◌++◌, length, map, get_or, slice_get, unwrap_or, Option, Some, None, true, false, nat_eq, codes, if◌then◌else◌}
 use Rattle.std.specs.Cmp.Lexicographic.{pointwise}
 use Rattle.sh_base.specs.declared.numbers.Width.{Width}
 use Rattle.sh_base.specs.declared.numbers.Width.TheVariants.{I1, I8, I16, I32, I64}
@@ -13,7 +13,6 @@ use Rattle.sh_base.specs.declared.operations.Kind.{Kind}
 use Rattle.sh_base.specs.declared.operations.Kind.TheVariants.{Sum, Product, Max, Min, And, Or, Xor}
 use Rattle.sh_base.specs.declared.operations.Predicate.{Predicate}
 use Rattle.sh_base.specs.declared.operations.Predicate.TheVariants.{Eq, Ne, Slt, Sle, Sgt, Sge, Ult, Ule, Ugt, Uge}
-use Rattle.sh_base.specs.declared.places.Place.{Place}
 use Rattle.sh_grammar.specs.declared.forms.Form.{Form}
 use Rattle.sh_grammar.specs.declared.forms.Form.TheVariants.{File, Aliases, Contents, ModuleName, Items, Alias, Hash, Map, Names, MoreNames, Name, Item, Extents, Arguments, MoreArguments, Argument, Device, Cuts, MoreCuts, Cut, MaybeHalo, Halo, MaybeOffsets, Offsets, Func, Visibility, Parameters, MoreParameters, Parameter, Results, ResultTypes, Operations, Return, Returned, ValueType, Dims, Dim, Width as WidthForm, Types, MoreTypes, Values, MoreValues, Dense, Cells, Element, Elements, MoreElements, Num, Nums, Numbers, MoreNumbers, Lists, ListItems, MoreListItems, Operation, RightSide, EmptyTensor, ExtractSlice, InsertSlice, CollapseShape, ExpandShape, Structured, StructuredName, Transpose, Broadcast, Reduce, Generic, Sharding, Shard, AllGather, AllSlice, AllReduce, ReduceScatter, AllToAll, Shift, UpdateHalo, Take, Pad, Join, Call, CallName, Arith, Constant, Literal, Binary, BinaryName, Compare, Predicate as PredicateForm, Select, SelectTypes, Cast, CastName, Ins, MaybeIns, Outs, ReduceTail, Combiner, MaybeNoOverflow, NoOverflow, Body, BodyOperation, GenericBody, GenericOperation, GenericRightSide, LoopIndex, IndexCast, Yield, BlockArguments, MoreBlockArguments, BlockArgument, Maps, MoreMaps, MapOrAlias, Iterators, MoreIterators, On, MaybeAxes, MaybeReduction, ReductionKind, KindName, MaybeForUsers, MaybeRotate}
 use Rattle.sh_ir.specs.Parts.{op_of}
@@ -30,12 +29,9 @@ use Rattle.sh_ir.specs.declared.functions.Func as func
 use Rattle.sh_ir.specs.declared.linalg_ops.InsOuts.{InsOuts}
 use Rattle.sh_ir.specs.declared.linalg_ops.IteratorType.{IteratorType}
 use Rattle.sh_ir.specs.declared.linalg_ops.IteratorType.TheVariants.{Parallel, Reduction, Unknown}
-use Rattle.sh_ir.specs.declared.modules.Module.{Module}
 use Rattle.sh_ir.specs.declared.operations.OpKind.{OpKind}
 use Rattle.sh_ir.specs.declared.operations.OpKind.TheVariants as op_kind
-use Rattle.sh_ir.specs.declared.shard_ops.GridAxes.{GridAxes}
 use Rattle.sh_ir.specs.declared.tensor_ops.Slice.{Slice}
-use Rattle.sh_ir.specs.declared.types.Dim.TheVariants as dim
 use Rattle.sh_ir.specs.declared.types.RawSharding.{RawSharding}
 use Rattle.sh_ir.specs.declared.types.ValueType as value_type
 use Rattle.sh_ir.specs.declared.types.ValueType.TheVariants as type

@@ -1,8 +1,8 @@
 -- Names: what each token of a text says of them, which names are one, and their numbers. All of it is
 -- said of the steps of a reading, so that it is known of the tokens so far however the text goes on.
 -- Functions, maps and operations are known by the numbers of their first tokens.
-use Rattle.std.specs.Prelude.{ℕ, zero, suc, List, [], ◌∷◌, ◌++◌, map, flat_map, filter, length, take, drop, Option, Some, None, Bool, true, false, not, ◌&&◌, ◌||◌, nat_eq, codes, if◌then◌else◌}
-use Rattle.std.specs.List.{list_any, list_all, position_or_len}
+use Rattle.std.specs.Prelude.{ℕ, suc, List, [], ◌∷◌, ◌++◌, map, flat_map, filter, Option, Some, None, Bool, true, false, not, ◌&&◌, nat_eq, codes, if◌then◌else◌}
+use Rattle.std.specs.List.{list_any, position_or_len}
 use Rattle.std.specs.Cmp.Lexicographic.{pointwise}
 use Rattle.sh_lex.specs.declared.tokens.TokenKind.{TokenKind}
 use Rattle.sh_lex.specs.declared.tokens.TokenKind.TheVariants.{Val, At}

@@ -1,6 +1,6 @@
 -- A part read as what its neighbours make it: the numbers that it stands for, the type and so on.
 -- A part of another kind, which no file has there, is read as nothing.
-use Rattle.std.specs.Prelude.{ℕ, ℤ, pos, List, [], ◌∷◌, Option, Some, None, Bool, true, false}
+use Rattle.std.specs.Prelude.{ℕ, ℤ, pos, List, [], Option, Some, None, Bool, false}
 use Rattle.sh_base.specs.declared.numbers.Width.{Width}
 use Rattle.sh_base.specs.declared.numbers.Width.TheVariants.{I1}
 use Rattle.sh_base.specs.declared.operations.BinOp.{BinOp}

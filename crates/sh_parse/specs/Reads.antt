@@ -1,6 +1,5 @@
 -- The module that a text stands for, and where a text that stands for none is refused.
-use Rattle.std.specs.Prelude.{◌≡◌, ◌⊎◌, ℕ, suc, ◌-◌, List, [], ◌∷◌, ◌++◌, length, take, drop, slice_get, Option, Some, None, Bool, true, false, nat_eq, codes, if◌then◌else◌}
-use Rattle.std.specs.Cmp.Lexicographic.{pointwise}
+use Rattle.std.specs.Prelude.{◌≡◌, ◌⊎◌, ℕ, suc, ◌-◌, List, [], ◌∷◌, length, take, drop, slice_get, Some, Bool, true, false, codes, if◌then◌else◌}
 use Rattle.sh_base.specs.declared.rules.Rule.{Rule}
 use Rattle.sh_base.specs.declared.rules.Rule.TheVariants.{P1}
 use Rattle.sh_lex.specs.Tokens.{HasTokens, decimal_of, leading_value}
@@ -12,7 +11,6 @@ use Rattle.sh_grammar.specs.Grammar.{Trees, events, tokens}
 use Rattle.sh_grammar.specs.Grammar.Trees.{nothing, token, form}
 use Rattle.sh_grammar.specs.Language.{IsFile, IsFileFront, language, text_of_file}
 use Rattle.sh_grammar.specs.Lexemes.{Lexeme, lexemes}
-use Rattle.sh_grammar.specs.declared.forms.Form.{Form}
 use Rattle.sh_grammar.specs.declared.forms.Form.TheVariants.{File, Aliases}
 use Rattle.sh_grammar.specs.declared.symbols.Event.{Event}
 use Rattle.sh_ir.specs.declared.linalg_ops.AffineMap.{AffineMap}

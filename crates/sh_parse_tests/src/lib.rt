@@ -1,2 +1,5 @@
 //! Texts and the modules that they stand for.
 #![tactic(auto)]
+
+#[cfg(test)]
+mod literals;
