@@ -5,3 +5,4 @@ pub mod Readings
 pub mod Reads
 pub mod Rows
 pub mod Sizes
+pub mod Sections
