@@ -33,7 +33,7 @@ fn cut_product(count: usize, product: u128, extent: u64) -> u128
 }
 
 /// Whether a type with these extents has so many cells.
-#[tactic(auto, using(crate::proofs::Counts::one_extent, crate::proofs::Counts::no_extent, crate::proofs::Counts::differs, crate::proofs::Counts::all_extents))]
+#[tactic(auto, using(crate::proofs::Counts::no_extent))]
 fn is_count(dims: &[Dim], count: usize) -> bool
     ensures { result ≡ option_map_or (nat_eq count) (known_count dims.now) false }
 {

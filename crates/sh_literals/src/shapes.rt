@@ -34,8 +34,8 @@ pub fn no_list(alloc: Global) -> Result<Literal, Mem>
     }))
 }
 
-/// A list with one more item in front. The elements of the item are moved, and not copied, where the
-/// list had none.
+/// A list with one more item in front. The elements of the item are moved, and not copied, where
+/// the list had none.
 pub fn in_front(item: Literal, items: Literal) -> Result<Literal, Mem>
     ensures { IfOk result (λ it. it ≡ in_front_of item items) }
 {

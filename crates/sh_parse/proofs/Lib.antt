@@ -1,3 +1,4 @@
 mod Backwards
 mod Behind
 mod OneReading
+mod SizesFit

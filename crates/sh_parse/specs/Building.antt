@@ -1,11 +1,18 @@
 -- The parts of a file, made from its steps from the last to the first.
-use Rattle.std.specs.Prelude.{List, [], ◌∷◌}
+use Rattle.std.specs.Prelude.{◌≡◌, List, [], ◌∷◌}
 use Rattle.sh_grammar.specs.declared.symbols.Event.{Event}
 use Rattle.sh_grammar.specs.declared.symbols.Event.TheVariants.{Took, Opened}
 use Rattle.sh_parse.specs.Meaning.{made}
 use Rattle.sh_parse.specs.Rows.{firsts, past}
+use Rattle.sh_parse.specs.Sizes.{size_of}
 use Rattle.sh_parse.specs.declared.parts.Part.{Part}
 use Rattle.sh_parse.specs.declared.parts.Part.TheVariants.{Nothing}
+
+-- each form stands with as many parts as its row has
+abbrev pub AreSized : List Event → Type 0
+AreSized [] = Unit {0}
+AreSized (Took ∷ es) = AreSized es
+AreSized (Opened n i size ∷ es) = (size ≡ size_of n i) × AreSized es
 
 -- what a form makes of the first parts that stand behind it
 abbrev pub made_of : Event → List Part → List Part

@@ -23,7 +23,7 @@ mod tensor_forms;
 mod words;
 
 pub use boxed::Boxed;
-pub use laws::one_module;
+pub use laws::{one_module, rows_have_sizes};
 pub use parts::{
     Alias, Arith, BodyTail, Combiner, Contents, Device, Mark, Operands, Part, RightSide,
     StructuredName,

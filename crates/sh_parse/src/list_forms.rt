@@ -112,7 +112,8 @@ pub(crate) fn cuts(alloc: Global, row: &mut Row) -> Result<Part, Mem>
 /// Arguments of a call item
 pub(crate) fn arguments(alloc: Global, row: &mut Row) -> Result<Part, Mem>
     ensures made { IfOk result (λ part. part ≡
-        parts.Constants (before (constant_in (first_part row.old)) (constants_in (first_part (past 1 row.old))))) }
+        parts.Constants (before (constant_in (first_part row.old))
+        (constants_in (first_part (past 1 row.old))))) }
     ensures rest { IfOk result (λ _. row.new ≡ past 2 row.old) }
 {
     let first = row.next().constant();

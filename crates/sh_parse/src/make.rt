@@ -1,4 +1,6 @@
-ghost use Rattle.std.specs.Prelude.{◌≡◌, IfOk};
+ghost use Rattle.std.specs.Prelude.{◌≡◌, IfOk, OnOk};
+ghost use Rattle.sh_grammar.specs.declared.symbols.Event.TheVariants as event;
+ghost use Rattle.sh_parse.specs.Building.{made_of};
 ghost use Rattle.sh_parse.specs.Meaning.{made};
 ghost use Rattle.sh_parse.specs.Rows.{firsts, past};
 ghost use Rattle.sh_parse.specs.Sections.{section_of};
@@ -23,6 +25,21 @@ use sh_base::{Kind, Mem};
 use sh_grammar::Form;
 use sh_literals::{Literal, Rest, no_list};
 use std::alloc::Global;
+
+/// Puts what a form makes in place of the parts of its row.
+pub(crate) fn open(
+    alloc: Global,
+    form: Form,
+    alternative: u16,
+    size: u16,
+    row: &mut Row,
+) -> Result<(), Mem>
+    requires { size ≡ size_of form alternative }
+    ensures { OnOk result (row.new ≡ made_of (event.Opened form alternative size) row.old) }
+{
+    let part = make(alloc, form, alternative, row)?;
+    row.put(part)
+}
 
 /// What a form makes of the parts of its row.
 pub(crate) fn make(alloc: Global, form: Form, alternative: u16, row: &mut Row) -> Result<Part, Mem>
