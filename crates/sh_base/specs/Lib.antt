@@ -1,3 +1,4 @@
 pub mod Cells
+pub mod Limits
 pub mod Rules
 pub mod Shape

@@ -2,7 +2,7 @@
 use Rattle.std.specs.Prelude.{◌≡◌, ℕ, ◌+◌, ◌≤◌, ◌↔◌, List, [], ◌++◌, Option, IfSome, length, take, codes}
 use Rattle.std.specs.Io.KnownBytes.{Appends, Consumes, IsAtEnd, Keeps}
 use Rattle.sh_io.specs.Causes.{Rose}
-use Rattle.sh_io.specs.Reading.{max_bytes}
+use Rattle.sh_base.specs.Limits.{max_bytes}
 use Rattle.sh_io.specs.Writing.{AppendsFront}
 use Rattle.sh_io.specs.declared.reading.ReadEnd.{ReadEnd}
 use Rattle.sh_io.specs.declared.reading.ReadEnd.TheVariants.{Fault, TooLong, Mem}

@@ -3,7 +3,7 @@ use Rattle.std.specs.Prelude.{◌≡◌, ℕ, ◌*◌, ◌/◌, ◌<◌, ◌≤�
 use Rattle.std.specs.Fmt.{decimal}
 use Rattle.std.specs.List.{concat}
 use Rattle.sh_base.specs.Shape.{max_cells}
-use Rattle.sh_grid.specs.Grid.{max_devices}
+use Rattle.sh_base.specs.Limits.{max_devices}
 
 -- the type of a vector of 32-bit cells
 unfoldable pub vector_type : ℕ → List ℕ

@@ -7,7 +7,8 @@ use Rattle.std.proofs.Math.Nat.{mul-le-mul_left, mul-div_cancel_left}
 use Rattle.sh_base.specs.Shape.{cell_count, IsIndexOf, flat_of, unflat_of}
 use Rattle.sh_base.proofs.ShapeLaws.{cell_count-append, cell_count-take_more, flat_of-below, unflat_of-within, unflat_of-flat_of, flat_of-unflat_of}
 use Rattle.sh_base.proofs.IndexLaws.{cell_count-some, cell_count-drop_some, cell_count-drop_le, cell_count-front_le, IsIndexOf-set_entry, cell_count-split, cell_count-set, rest_some, flat_of-moved}
-use Rattle.sh_grid.specs.Grid.{max_devices, IsGrid, IsNoneOf, AreAxesOf, on_axes, place_in, group_size_of, with_entries, member_of}
+use Rattle.sh_grid.specs.Grid.{IsGrid, IsNoneOf, AreAxesOf, on_axes, place_in, group_size_of, with_entries, member_of}
+use Rattle.sh_base.specs.Limits.{max_devices}
 use Rattle.sh_grid.proofs.GroupLaws.{on_axes-set_other, place_in-below}
 
 -- ---- lists of axes

@@ -1,7 +1,8 @@
 ghost use Rattle.std.specs.Prelude.{◌≡◌, ◌<◌, ◌≤◌, ◌↔◌, IsTrue};
 ghost use Rattle.std.specs.Option.{SomeIff};
 ghost use Rattle.sh_base.specs.Shape.{cell_count, IsIndexOf, unflat_of};
-ghost use Rattle.sh_grid.specs.Grid.{IsGrid, max_devices};
+ghost use Rattle.sh_grid.specs.Grid.{IsGrid};
+ghost use Rattle.sh_base.specs.Limits.{max_devices};
 
 use sh_base::{Duplicate, Mem, Same, Shape, Text, count, shape, unflat};
 use std::alloc::Global;
@@ -13,7 +14,8 @@ pub const MAX_AXES: usize = 4;
 /// The greatest number of devices of a grid.
 pub const MAX_DEVICES: u64 = 1024;
 
-/// A named grid of devices: one to four axes, each of extent at least 1, with at most 1,024 devices.
+/// A named grid of devices: one to four axes, each of extent at least 1, with at most 1,024
+/// devices.
 #[derive(Debug, Drop)]
 pub struct Grid {
     name: Text,

@@ -1,6 +1,7 @@
 ghost use Rattle.std.specs.Prelude.{◌≡◌, ℕ, ◌+◌, ◌<◌, ◌≤◌, IfOk, drop, length, set, slice_index};
 ghost use Rattle.sh_base.specs.Shape.{cell_count, unflat_of};
-ghost use Rattle.sh_grid.specs.Grid.{AgreeOutside, AreAxesOf, IsGrid, group_size_of, member_of, place_in, max_devices};
+ghost use Rattle.sh_grid.specs.Grid.{AgreeOutside, AreAxesOf, IsGrid, group_size_of, member_of, place_in};
+ghost use Rattle.sh_base.specs.Limits.{max_devices};
 
 use crate::{Grid, extents};
 use sh_base::Shape;
@@ -37,7 +38,8 @@ fn moved(extents: &[u64], axis: u64, device: u64, coordinate: u64) -> u64
     requires axis { axis < length extents.now }
     requires device { device < cell_count extents.now }
     requires coordinate { coordinate < slice_index extents.now axis }
-    ensures index { unflat_of extents.now result ≡ set (unflat_of extents.now device) axis coordinate }
+    ensures index { unflat_of extents.now result
+        ≡ set (unflat_of extents.now device) axis coordinate }
     ensures within { result < cell_count extents.now }
 {
     let stride = stride_of(extents, axis);
@@ -77,7 +79,8 @@ pub fn place_in_group(g: &Grid, axes: &Shape, device: u64) -> u64
     ensures value { result ≡ place_in g.now.extents axes.now device }
     ensures below { result < group_size_of g.now.extents axes.now }
     // From each device of the group, the member at this place is the device.
-    ensures member { (c : ℕ) → AgreeOutside g.now.extents axes.now c device → member_of g.now.extents axes.now c result ≡ device }
+    ensures member { (c : ℕ) → AgreeOutside g.now.extents axes.now c device
+        → member_of g.now.extents axes.now c result ≡ device }
 {
     let extents = extents(g).extents();
     let mut place = 0;

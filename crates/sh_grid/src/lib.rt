@@ -1,8 +1,8 @@
 //! Grids of devices, and the groups of devices along a list of axes.
 //!
-//! Devices are numbered row-major over their coordinates. Devices that have equal coordinates on each
-//! axis outside a list of axes form a group. The place of a device in its group is the mixed-radix
-//! number of its coordinates on the listed axes, the first listed axis outermost.
+//! Devices are numbered row-major over their coordinates. Devices that have equal coordinates on
+//! each axis outside a list of axes form a group. The place of a device in its group is the
+//! mixed-radix number of its coordinates on the listed axes, the first listed axis outermost.
 #![tactic(auto)]
 
 mod grids;

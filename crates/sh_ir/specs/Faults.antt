@@ -15,7 +15,8 @@ use Rattle.sh_ir.specs.declared.operations.OpKind.{OpKind}
 use Rattle.sh_ir.specs.declared.types.ValueType.{ValueType}
 use Rattle.sh_ir.specs.Agreement.{has_differing, is_tensor, same_types}
 use Rattle.sh_ir.specs.Formed.{cuts_in, func_types, is_scalar}
-use Rattle.sh_ir.specs.Limits.{has_few_dims, has_few_cells, has_few_devices, instructions_in, is_source, max_axes, max_instructions, max_operations, operations_in}
+use Rattle.sh_ir.specs.Limits.{has_few_dims, has_few_cells, has_few_devices, instructions_in, is_source, max_instructions, max_operations, operations_in}
+use Rattle.sh_base.specs.Limits.{max_axes}
 use Rattle.sh_ir.specs.Literals.{is_broken}
 use Rattle.sh_ir.specs.declared.operations.OpKind.TheVariants.{Constant, Binary, Compare, Select, Cast, Empty, ExtractSlice, InsertSlice, CollapseShape, ExpandShape, Fill, Matmul, BatchMatmul, Matvec, Vecmat, Dot, Conv1d, Conv2d, Transpose, Broadcast, Reduce, Generic, Sharding, Shard, AllGather, AllSlice, AllReduce, ReduceScatter, AllToAll, Shift, UpdateHalo, Take, Pad, Join, Call, Return}
 use Rattle.sh_ir.specs.Numbers.{are_distinct, is_positive}

@@ -1,6 +1,7 @@
 -- The limits on ranks, cells, operations and devices.
 use Rattle.std.specs.Prelude.{ℕ, ◌+◌, Bool, true, false, nat_le, length, map, max, sum, is_none, if◌then◌else◌}
 use Rattle.std.specs.Option.{option_map_or}
+use Rattle.sh_base.specs.Limits.{max_devices}
 use Rattle.sh_base.specs.Shape.{cell_count, max_cells, max_rank}
 use Rattle.sh_ir.specs.declared.functions.Func.{Func}
 use Rattle.sh_ir.specs.declared.modules.GridItem.{GridItem}
@@ -16,18 +17,11 @@ use Rattle.sh_ir.specs.declared.classification.OpClass.TheVariants as class
 use Rattle.sh_ir.specs.Loops.{generic_of}
 use Rattle.sh_ir.specs.Written.{written_by}
 
--- ---- the numbers; those of ranks and cells stand with shapes
+-- ---- the numbers; those of ranks, cells and grids stand below
 
 -- the greatest number of loops of an operation
 abbrev pub max_loops : ℕ
 max_loops = 6
-
--- the greatest number of axes of a grid, and of its devices
-abbrev pub max_axes : ℕ
-max_axes = 4
-
-abbrev pub max_devices : ℕ
-max_devices = 1024
 
 -- the greatest number of operations of a function in source form
 abbrev pub max_operations : ℕ

@@ -1,4 +1,5 @@
 ghost use Rattle.std.specs.Prelude.{◌≡◌, ◌≢◌, ◌≤◌, ◌⊎◌, List, IfOk, IfErr, IsErrAnd, MatchResult, length};
+ghost use Rattle.sh_base.specs.Limits.{max_bytes};
 ghost use Rattle.sh_lex.specs.declared.tokens.LexRefusal.{LexRefusal};
 ghost use Rattle.sh_lex.specs.declared.tokens.Token.{Token};
 ghost use Rattle.sh_lex.specs.Scan.{IsAt};
@@ -14,7 +15,7 @@ use std::alloc::Global;
 /// The next token and the position behind it.
 fn next_token(text: &[u8], from: Position) -> Result<(Token, Position), LexRefusal>
     requires at { IsAt text.now from }
-    requires small { length text.now ≤ 16777216 }
+    requires small { length text.now ≤ max_bytes }
     ensures next { IfOk result (λ t. t.0.kind ≢ TokenKind.End → IsNext text.now from.offset t.0) }
     ensures end { IfOk result (λ t. t.0.kind ≡ TokenKind.End → IsEnd text.now from.offset t.0) }
     ensures after { IfOk result (λ t. IsAt text.now t.1 × (t.1.offset ≡ t.0.end)) }
@@ -50,7 +51,7 @@ fn token(kind: TokenKind, start: Position, end: Position) -> Token
 /// that of the first byte of the token that was due. `Mem` comes where memory runs out. docs/LANGUAGE.md says which
 /// bytes each kind of token has.
 pub fn lex(alloc: Global, text: &[u8]) -> Result<Vec<Token>, LexRefusal>
-    requires { length text.now ≤ 16777216 }
+    requires { length text.now ≤ max_bytes }
     ensures tokens { IfOk result (λ tokens. HasTokens text.now tokens.items) }
     ensures refused { IfErr result (λ why. why ≢ LexRefusal.Mem → IsRefused text.now why) }
 

@@ -1,4 +1,5 @@
 ghost use Rattle.std.specs.Prelude.{◌≡◌, ◌+◌, ◌<◌, ◌≤◌, fold, length};
+ghost use Rattle.sh_base.specs.Limits.{max_bytes};
 ghost use Rattle.sh_lex.specs.Scan.{IsAt, place_past};
 ghost use Rattle.sh_lex.specs.Tokens.{is_line_feed};
 
@@ -47,7 +48,7 @@ fn place_past_all(from: Place, bytes: &[u8]) -> Place
 pub(crate) fn past(text: &[u8], from: Position, len: usize) -> Position
     requires at { IsAt text.now from }
     requires room { from.offset + len ≤ length text.now }
-    requires small { length text.now ≤ 16777216 }
+    requires small { length text.now ≤ max_bytes }
     ensures at { IsAt text.now result }
     ensures offset { result.offset ≡ from.offset + len }
 {

@@ -5,7 +5,8 @@ use Rattle.std.proofs.Math.Nat.{mul-le-mul}
 use Rattle.std.proofs.lemmas.List.Folds.{list_any-append}
 use Rattle.std.proofs.lemmas.List.{take_all, take_more}
 use Rattle.sh_base.specs.Shape.{cell_count}
-use Rattle.sh_grid.specs.Grid.{AreAxesOf, IsGrid, group_size_of, max_devices, on_axes}
+use Rattle.sh_grid.specs.Grid.{AreAxesOf, IsGrid, group_size_of, on_axes}
+use Rattle.sh_base.specs.Limits.{max_devices}
 use Rattle.sh_grid.proofs.GroupLaws.{on_axes-append}
 use Rattle.sh_grid.proofs.GroupSteps.{AreAxesOf-at, entry_below}
 use Rattle.sh_sharding.specs.declared.shardings.Dimension.{Dimension}

@@ -3,7 +3,8 @@ use Rattle.std.proofs.Common.{◌≡◌, ◌∙◌, ℕ, ◌+◌, ◌*◌, ◌<�
 use Rattle.std.specs.List.{AllByRecursion}
 use Rattle.std.proofs.Math.Nat.{mul-le-mul}
 use Rattle.sh_base.specs.Shape.{cell_count, max_cells}
-use Rattle.sh_grid.specs.Grid.{IsGrid, max_devices}
+use Rattle.sh_grid.specs.Grid.{IsGrid}
+use Rattle.sh_base.specs.Limits.{max_devices}
 use Rattle.sh_sharding.specs.declared.shardings.Dimension.{Dimension}
 use Rattle.sh_sharding.specs.Made.{IsState, plain, without_halos}
 use Rattle.sh_sharding.specs.Sharding.{ShardingValue, IsDimension, axes_of, counted_cells, unsplit, whole_of}

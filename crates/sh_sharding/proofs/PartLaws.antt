@@ -5,7 +5,8 @@ use Rattle.std.proofs.lemmas.List.{get_or_read}
 use Rattle.std.proofs.lemmas.Nat.{mul-le}
 use Rattle.std.proofs.Math.Nat.{mul-le-mul_left, mul-le-mul_right}
 use Rattle.sh_base.specs.Shape.{cell_count, max_cells}
-use Rattle.sh_grid.specs.Grid.{IsGrid, IsNoneOf, AreAxesOf, group_size_of, place_in, max_devices}
+use Rattle.sh_grid.specs.Grid.{IsGrid, IsNoneOf, AreAxesOf, group_size_of, place_in}
+use Rattle.sh_base.specs.Limits.{max_devices}
 use Rattle.sh_grid.proofs.GroupLaws.{place_in-below}
 use Rattle.sh_sharding.specs.declared.shardings.Mark.{Mark}
 use Rattle.sh_sharding.specs.declared.views.MarkView.{MarkView}

@@ -5,7 +5,7 @@ use Rattle.std.specs.List.{All}
 use Rattle.std.proofs.lemmas.List.Elements.{All-weaker, All-head, All-tail}
 use Rattle.std.proofs.lemmas.Int.{ints}
 use Rattle.std.proofs.lemmas.List.{take-take, take_all, take_more, take_more_set, length-set}
-use Rattle.sh_grid.specs.Grid.{max_devices}
+use Rattle.sh_base.specs.Limits.{max_devices}
 use Rattle.sh_base.specs.Shape.{max_rank}
 use Rattle.sh_sharding.specs.declared.shardings.Dimension.{Dimension}
 use Rattle.sh_sharding.specs.declared.views.AxisList.{AxisList}

@@ -1,4 +1,5 @@
--- The rules A1 to A3 and A5 to A8 on a sharding as it is written, and the sharding that it stands for.
+-- The rules A1 to A3 and A5 to A8 on a sharding as it is written, and the sharding that it stands
+-- for.
 use Rattle.std.specs.Prelude.{◌≡◌, ◌≢◌, ℕ, ◌*◌, ◌<◌, ◌≤◌, ◌==◌, List, [], ◌∷◌, length, count_by, All}
 use Rattle.std.specs.List.{AllByRecursion}
 use Rattle.sh_base.specs.declared.rules.Rule.{Rule}

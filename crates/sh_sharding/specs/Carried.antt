@@ -1,4 +1,5 @@
--- The cuts that a function in device form carries for its arguments and results, on the grid that it names.
+-- The cuts that a function in device form carries for its arguments and results, on the grid that
+-- it names.
 use Rattle.std.specs.Prelude.{ℕ, List, [], ◌∷◌, map, nat_eq, Option, Some, None, if◌then◌else◌}
 use Rattle.std.specs.Cmp.Lexicographic.{pointwise}
 use Rattle.sh_grid.specs.Grid.{GridValue}
@@ -43,7 +44,8 @@ cuts_of g [] ts device = []
 cuts_of g (cut ∷ cuts) [] device = []
 cuts_of g (cut ∷ cuts) (t ∷ ts) device = cut_of (carried g cut) t device ∷ cuts_of g cuts ts device
 
--- the type of the local tensors of a whole one, by its sharding: an extent is `?` where devices differ
+-- the type of the local tensors of a whole one, by its sharding: an extent is `?` where devices
+-- differ
 abbrev pub local_type : ShardingValue → ValueType → ValueType
 local_type s (Tensor whole) = Tensor (record whole { dims = local_dims s })
 local_type s (Scalar w) = Scalar w

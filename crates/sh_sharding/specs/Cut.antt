@@ -10,7 +10,8 @@ use Rattle.sh_tensor.specs.Tensor.{TensorValue, IsTensor, at, build}
 use Rattle.sh_sharding.specs.declared.shardings.Dimension.{Dimension}
 use Rattle.sh_sharding.specs.Sharding.{ShardingValue, parts_of, offset_at, part_size, start_in, size_in, local_shape, whole_of, axes_of}
 
--- The index of the whole at which a device's local index stands: start + j - low halo in each dimension.
+-- The index of the whole at which a device's local index stands: start + j - low halo in each
+-- dimension.
 abbrev pub whole_index : List ℕ → ℕ → List Dimension → List ℕ → List ℕ
 whole_index g device [] j = []
 whole_index g device (d ∷ ds) [] = []
@@ -38,7 +39,8 @@ cut_of s t device = build (local_shape s device) t.width (cut_cell s t device)
 
 -- ---- owners
 
--- the device owns the index of the whole: it lies in the device's part, without halos, in every dimension
+-- the device owns the index of the whole: it lies in the device's part, without halos, in every
+-- dimension
 abbrev pub OwnsIn : List ℕ → ℕ → List Dimension → List ℕ → Type 0
 OwnsIn g device [] i = Unit {0}
 OwnsIn g device (d ∷ ds) [] = ⊥
@@ -60,8 +62,8 @@ local_index g device (d ∷ ds) (x ∷ i) =
 abbrev pub held_cell : ShardingValue → TensorValue → ℕ → List ℕ → Cell
 held_cell s part device i = at part (local_index s.grid.extents device s.dimensions i)
 
--- The groups along all axes of the sharding, in order of dimensions: in the group of each device exactly
--- one device owns the index.
+-- The groups along all axes of the sharding, in order of dimensions: in the group of each device
+-- exactly one device owns the index.
 pub record HasOneOwner (s : ShardingValue) (device : ℕ) (i : List ℕ) : Type 0 where
   pub place : ℕ
   pub there : place < group_size_of s.grid.extents (axes_of s.dimensions)

@@ -12,7 +12,8 @@ use Rattle.sh_sharding.specs.Sharding.{ShardingValue, parts_of, part_size, size_
 unfoldable pub part_sizes : List ℕ → Dimension → List ℕ
 part_sizes g d = map (part_size g d) (range_with_len 0 (parts_of g d))
 
--- the extent of the local tensors along a dimension, halos included: `?` unless all parts have one size
+-- the extent of the local tensors along a dimension, halos included: `?` unless all parts have one
+-- size
 unfoldable pub local_dim : List ℕ → Dimension → Dim
 local_dim g d =
     if list_all (λ n. nat_eq n (part_size g d 0)) (part_sizes g d)
@@ -42,7 +43,8 @@ pub record HasTwoExtents (g : List ℕ) (d : Dimension) : Type 0 where
   pub there_too : second < cell_count g
   pub differ : local_extent g first d ≢ local_extent g second d
 
--- what an extent of a local type says: a number is that of each device, and `?` that two devices differ
+-- what an extent of a local type says: a number is that of each device, and `?` that two devices
+-- differ
 abbrev pub IsLocalDim : List ℕ → Dimension → Dim → Type 0
 IsLocalDim g d (Known n) = (device : ℕ) → device < cell_count g → local_extent g device d ≡ n
 IsLocalDim g d Differs = HasTwoExtents g d

@@ -57,8 +57,8 @@ split_by d axes mark = record d { axes = axes; mark = mark }
 abbrev pub IsEvenOrWhole : List ℕ → Dimension → Type 0
 IsEvenOrWhole g d = (is_even g d ≡ true) ⊎ (is_split d ≡ false)
 
--- What admission keeps as dimensions of halo-free shardings change. Of each change: the sharding that it
--- leads to is an admitted one without halos.
+-- What admission keeps as dimensions of halo-free shardings change. Of each change: the sharding
+-- that it leads to is an admitted one without halos.
 pub record StatesStay (s : ShardingValue) : Type 0 where
   -- the last axis of an even dimension is dropped: it is then even or whole
   pub dropped : (dim : ℕ) (front : List ℕ) (last : ℕ) → dim < length s.dimensions

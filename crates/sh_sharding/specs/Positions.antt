@@ -1,4 +1,5 @@
--- Where the cells stand that a device owns: positions, each a number in the whole and one in the local tensor.
+-- Where the cells stand that a device owns: positions, each a number in the whole and one in the
+-- local tensor.
 use Rattle.std.specs.Prelude.{◌≡◌, ◌≢◌, ℕ, ◌+◌, ◌*◌, ◌<◌, ◌≤◌, List, map, length, slice_index_or, All, Contains}
 use Rattle.sh_base.specs.declared.numbers.Cell.{Cell}
 use Rattle.sh_base.specs.declared.numbers.Cell.TheVariants.{Undef}

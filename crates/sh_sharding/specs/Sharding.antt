@@ -14,8 +14,8 @@ pub record ShardingValue : Type 0 where
   pub dimensions : List Dimension
 
 -- Where part i begins of an extent that is divided into so many parts. Part i ends where part i + 1
--- begins. Without written offsets the division is balanced: each part has the extent over the number
--- of parts, rounded up, as long as the extent lasts.
+-- begins. Without written offsets the division is balanced: each part has the extent over the
+-- number of parts, rounded up, as long as the extent lasts.
 unfoldable pub offset_of : ℕ → ℕ → Mark → ℕ → ℕ
 offset_of extent parts Balanced i = min extent (i * div_ceil extent parts)
 offset_of extent parts (Offsets offsets) i = slice_index offsets i
@@ -78,7 +78,8 @@ is_balanced_mark (Offsets offsets) = false
 abbrev pub is_balanced : Dimension → Bool
 is_balanced d = is_balanced_mark d.mark
 
--- whether it is even: split, balanced, and divisible by its number of parts, so that all have one size
+-- whether it is even: split, balanced, and divisible by its number of parts, so that all have one
+-- size
 unfoldable pub is_even : List ℕ → Dimension → Bool
 is_even g d = is_split d && (is_balanced d && (d.extent % parts_of g d == 0))
 

@@ -6,8 +6,8 @@ use Rattle.sh_sharding.specs.declared.shardings.Dimension.{Dimension}
 use Rattle.sh_sharding.specs.Sharding.{ShardingValue, parts_of, offsets_of, is_split, is_balanced}
 use Rattle.sh_sharding.specs.Normal.{up_to_last_split}
 
--- The dimensions whose lists of axes are written: up to the last one that is split, and the first in
--- any case, so that a replicated tensor has one empty list.
+-- The dimensions whose lists of axes are written: up to the last one that is split, and the first
+-- in any case, so that a replicated tensor has one empty list.
 abbrev pub written_dimensions : List Dimension → List Dimension
 written_dimensions [] = []
 written_dimensions (d ∷ ds) = d ∷ up_to_last_split ds

@@ -2,7 +2,8 @@
 use Rattle.std.specs.Prelude.{◌≡◌, ℕ, ◌+◌, ◌*◌, ◌≤◌, ◌<◌, List, [], ◌∷◌, length, map, min, take, get_or, ℤ, pos, negsuc, ◌≤ℤ◌, All}
 use Rattle.sh_base.specs.Shape.{max_cells, max_rank}
 use Rattle.std.specs.List.{AllByRecursion, flat_map}
-use Rattle.sh_grid.specs.Grid.{GridValue, AreAxesOf, group_size_of, max_devices}
+use Rattle.sh_grid.specs.Grid.{GridValue, AreAxesOf, group_size_of}
+use Rattle.sh_base.specs.Limits.{max_devices}
 use Rattle.sh_sharding.specs.declared.views.AxisList.{AxisList}
 use Rattle.sh_sharding.specs.declared.views.Listing.{Listing}
 use Rattle.sh_sharding.specs.declared.views.Listing.TheVariants.{Offsets as OwnOffsets, Scaled}

@@ -1,5 +1,5 @@
--- A cut is, along each dimension by itself, a window of the whole. How it is made: each dimension is first
--- sliced to what lies in the whole, and then padded with undefined cells.
+-- A cut is, along each dimension by itself, a window of the whole. How it is made: each dimension
+-- is first sliced to what lies in the whole, and then padded with undefined cells.
 use Rattle.std.specs.Prelude.{◌≡◌, ℕ, zero, suc, ◌+◌, ◌-◌, List, [], ◌∷◌, min, set, get_or, replicate, Bool, true, ◌&&◌, nat_le, nat_lt, if◌then◌else◌}
 use Rattle.sh_base.specs.declared.numbers.Cell.{Cell}
 use Rattle.sh_base.specs.declared.numbers.Cell.TheVariants.{Undef}
@@ -19,8 +19,8 @@ window_cell g device d t axis i =
     then at t (set i axis (start_in g device d + get_or i axis 0 - d.low))
     else Undef
 
--- A device's window of a tensor along one dimension: its part with the halos, undefined where a halo
--- leaves the tensor.
+-- A device's window of a tensor along one dimension: its part with the halos, undefined where a
+-- halo leaves the tensor.
 unfoldable pub window_of : List ℕ → ℕ → Dimension → TensorValue → ℕ → TensorValue
 window_of g device d t axis =
     build (set t.shape axis (local_extent g device d)) t.width (window_cell g device d t axis)

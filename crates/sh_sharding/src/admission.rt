@@ -159,19 +159,19 @@ fn admitted_dimensions(
 
 /// The sharding that is written for a tensor of a shape, in normal form.
 ///
-/// A written sharding has the name of a grid, for each tensor dimension a list of the grid axes that
-/// split it (missing lists are empty), and either halo sizes, or offsets, or neither. It is refused with
-/// the first of these rules that it breaks, or for want of memory:
+/// A written sharding has the name of a grid, for each tensor dimension a list of the grid axes
+/// that split it (missing lists are empty), and either halo sizes, or offsets, or neither. It is
+/// refused with the first of these rules that it breaks, or for want of memory:
 ///
 /// - A1: each listed axis is one of the grid's.
 /// - A2: no axis is listed twice.
 /// - A3: there are no more lists than dimensions.
-/// - A5: offsets are, for each split dimension in order, the start of each part and then the extent: 0
-///   first, none less than the one before.
+/// - A5: offsets are, for each split dimension in order, the start of each part and then the
+///   extent: 0 first, none less than the one before.
 /// - A6: there are halo sizes or offsets, not both.
 /// - A7: halo sizes are two for each split dimension, at its start and its end; none is negative.
-/// - A8: no halo is longer than the smallest part of its dimension, and the largest local tensor, halos
-///   included, has at most 1,048,576 cells, an extent of 0 being counted as 1.
+/// - A8: no halo is longer than the smallest part of its dimension, and the largest local tensor,
+///   halos included, has at most 1,048,576 cells, an extent of 0 being counted as 1.
 pub fn admit(
     alloc: Global,
     g: &Grid,

@@ -103,8 +103,8 @@ fn is_balanced_view(g: &Grid, view: &DimensionView<'_>) -> bool
     is_balanced(view.extent, parts, view.mark)
 }
 
-/// Whether a view is that of an even dimension: split, balanced, and divisible by its number of parts.
-/// It takes no memory.
+/// Whether a view is that of an even dimension: split, balanced, and divisible by its number of
+/// parts. It takes no memory.
 pub fn is_even_view(g: &Grid, view: &DimensionView<'_>) -> bool
     requires { IsOrdered g.now.extents view.now }
     ensures { result ≡ is_even g.now.extents (described g.now.extents view.now) }
@@ -163,9 +163,9 @@ fn has_one_mark(g: &Grid, views: &[DimensionView<'_>]) -> bool
     are_all_balanced(g, views) || are_without_halos(views)
 }
 
-/// Whether the views describe an admitted sharding of a tensor on the grid: whether the rules on it are
-/// kept, with at most six dimensions and 1,048,576 cells, an extent of 0 being counted as 1. It takes no
-/// memory.
+/// Whether the views describe an admitted sharding of a tensor on the grid: whether the rules on it
+/// are kept, with at most six dimensions and 1,048,576 cells, an extent of 0 being counted as 1. It
+/// takes no memory.
 pub fn is_admitted(g: &Grid, views: &[DimensionView<'_>]) -> bool
     ensures { IsTrue result ↔ IsAdmittedView g.now views.now }
 {

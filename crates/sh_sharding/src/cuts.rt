@@ -70,7 +70,8 @@ fn sliced(
     Ok(Some(slice(alloc, t, axis, start, size)?))
 }
 
-/// The part along one axis more. `None` stands for all of the tensor, which is so copied once at most.
+/// The part along one axis more. `None` stands for all of the tensor, which is so copied once at
+/// most.
 fn sliced_further(
     alloc: Global,
     t: &Tensor,
@@ -114,8 +115,8 @@ fn clipped(alloc: Global, t: &Tensor, s: &Sharding, g: &Grid, device: u64) -> Re
     }
 }
 
-/// The local tensor of a device, halos included: a copy of its part, and undefined cells where a halo
-/// leaves the whole. Want of memory is the only refusal.
+/// The local tensor of a device, halos included: a copy of its part, and undefined cells where a
+/// halo leaves the whole. Want of memory is the only refusal.
 pub fn cut(alloc: Global, t: &Tensor, s: &Sharding, g: &Grid, device: u64) -> Result<Tensor, Mem>
     requires grid { s.now.grid ≡ g.now }
     requires shape { t.now.shape ≡ whole_of s.now }

@@ -30,7 +30,8 @@ fn are_naturals(numbers: &[i128]) -> bool
     numbers.iter().all(|number| *number >= 0)
 }
 
-/// Whether these are two halo sizes for each of so many split dimensions, of which none is negative.
+/// Whether these are two halo sizes for each of so many split dimensions, of which none is
+/// negative.
 pub(crate) fn are_halos(halos: &[i128], split: usize) -> bool
     ensures { IsTrue result ↔ ((length halos.now ≡ 2 * split) × All IsNatural halos.now) }
 {

@@ -8,8 +8,8 @@ use crate::offsets::largest_part;
 use sh_base::MAX_CELLS;
 use sh_grid::{Grid, size_along};
 
-/// A number of cells with one dimension more, an extent of 0 being counted as 1; as one more than the
-/// limit where it is greater.
+/// A number of cells with one dimension more, an extent of 0 being counted as 1; as one more than
+/// the limit where it is greater.
 fn counted_with(total: u64, extent: u64) -> u64
     requires { total ≤ max_cells + 1 }
     ensures { result ≡ min (total * max 1 extent) (max_cells + 1) }
@@ -38,8 +38,8 @@ fn largest_extent(g: &Grid, view: &DimensionView<'_>) -> u64
     view.low + largest_part(view.extent, parts, view.mark) + view.high
 }
 
-/// Whether the largest local tensor has at most 1,048,576 cells, halos included and an extent of 0 being
-/// counted as 1.
+/// Whether the largest local tensor has at most 1,048,576 cells, halos included and an extent of 0
+/// being counted as 1.
 pub(crate) fn is_local_small(g: &Grid, views: &[DimensionView<'_>]) -> bool
     requires ordered { All (IsOrdered g.now.extents) views.now }
     requires short { All IsShort views.now }

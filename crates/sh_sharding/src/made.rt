@@ -55,8 +55,8 @@ fn extents_of(alloc: Global, dimensions: &[Dimension]) -> Shape
     shape(alloc, &extents[..dimensions.len()])
 }
 
-/// The sharding on a grid that divides each dimension so, which must be an admitted one in normal form.
-/// It takes no memory and can't be refused.
+/// The sharding on a grid that divides each dimension so, which must be an admitted one in normal
+/// form. It takes no memory and can't be refused.
 pub fn from_dimensions(alloc: Global, grid: Grid, dimensions: Dimensions) -> Sharding
     requires { IsSharding (record { grid = grid; dimensions = dimensions }) }
     ensures { result ≡ record { grid = grid; dimensions = dimensions } }

@@ -52,9 +52,9 @@ fn same_divisions(a: &[Dimension], b: &[Dimension]) -> bool
     true
 }
 
-/// Whether two shardings are the same: their grids are equal, and so are their normal forms, which have
-/// for each dimension up to the last one that is split its axes, its mark and its halo sizes. The shapes
-/// of the tensors may differ. It takes no memory.
+/// Whether two shardings are the same: their grids are equal, and so are their normal forms, which
+/// have for each dimension up to the last one that is split its axes, its mark and its halo sizes.
+/// The shapes of the tensors may differ. It takes no memory.
 pub fn same(a: &Sharding, b: &Sharding) -> bool
     ensures { IsTrue result ↔ IsSame a.now b.now }
 {

@@ -1,5 +1,6 @@
 ghost use Rattle.std.specs.Prelude.{◌≡◌, ◌≢◌, false, ◌<◌, ◌≤◌, ◌↔◌, [], All, IfOk, IsTrue, MatchOption, length, map};
-ghost use Rattle.sh_grid.specs.Grid.{AreAxesOf, max_devices};
+ghost use Rattle.sh_grid.specs.Grid.{AreAxesOf};
+ghost use Rattle.sh_base.specs.Limits.{max_devices};
 ghost use Rattle.sh_sharding.specs.AxisLists.{natural};
 ghost use Rattle.sh_sharding.specs.OffsetLists.{AreAllOffsets, AreOffsets, HasOffsets, mark_of, marked, offset_count, with_mark};
 ghost use Rattle.sh_sharding.specs.Sharding.{is_balanced_mark, is_split};

@@ -1,5 +1,6 @@
 ghost use Rattle.std.specs.Prelude.{◌≡◌, ◌==◌, ◌&&◌, ◌%◌, ◌+◌, ◌<◌, ◌≤◌, ◌↔◌, ℕ, IsTrue, MatchOption, length, get_or, pos};
-ghost use Rattle.sh_grid.specs.Grid.{AreAxesOf, group_size_of, max_devices};
+ghost use Rattle.sh_grid.specs.Grid.{AreAxesOf, group_size_of};
+ghost use Rattle.sh_base.specs.Limits.{max_devices};
 ghost use Rattle.sh_sharding.specs.OffsetLists.{AreOffsets};
 ghost use Rattle.sh_sharding.specs.LocalTypes.{HasOtherSize, IsCommonSize};
 ghost use Rattle.sh_sharding.specs.Sharding.{IsDivided, IsNormalMark, largest_to, offset_of, parts_of, size_of_part};
@@ -118,8 +119,8 @@ fn is_rising(listing: Listing<'_>, at: usize, extent: u64) -> bool
     }
 }
 
-/// Whether these are the offsets of so many parts of an extent: 0 first, none less than the one before,
-/// the extent last.
+/// Whether these are the offsets of so many parts of an extent: 0 first, none less than the one
+/// before, the extent last.
 pub(crate) fn are_offsets(extent: u64, parts: u64, listing: Listing<'_>) -> bool
     requires { parts ≤ max_devices }
     ensures { IsTrue result ↔ AreOffsets extent parts (offsets_in listing.entry) }

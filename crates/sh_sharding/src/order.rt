@@ -41,8 +41,8 @@ fn compare_dimensions(g: &Grid, a: &DimensionView<'_>, b: &DimensionView<'_>) ->
     }
 }
 
-/// The order of two shardings on a grid, of which views tell: dimension by dimension, by the list of axes
-/// and then by the offsets, lists being compared from the front. It takes no memory.
+/// The order of two shardings on a grid, of which views tell: dimension by dimension, by the list
+/// of axes and then by the offsets, lists being compared from the front. It takes no memory.
 pub fn compare_views(g: &Grid, a: &[DimensionView<'_>], b: &[DimensionView<'_>]) -> Ordering
     requires first { All (IsOrdered g.now.extents) a.now }
     requires second { All (IsOrdered g.now.extents) b.now }
@@ -58,8 +58,8 @@ pub fn compare_views(g: &Grid, a: &[DimensionView<'_>], b: &[DimensionView<'_>])
     a.len().cmp(&b.len())
 }
 
-/// The order of two shardings on one grid, which tells halo-free ones of one whole shape apart. It takes
-/// no memory.
+/// The order of two shardings on one grid, which tells halo-free ones of one whole shape apart. It
+/// takes no memory.
 pub fn compare(a: &Sharding, b: &Sharding) -> Ordering
     requires { a.now.grid ≡ b.now.grid }
     ensures { result ≡ order_of a.now.grid.extents a.now.dimensions b.now.dimensions }

@@ -98,8 +98,8 @@ pub(crate) fn write_own(cells: &mut Vec<Cell>, part: &[Cell], positions: &[Posit
     }
 }
 
-/// The least number of a cell where a part differs from what stands there, or how many cells there are
-/// where it doesn't.
+/// The least number of a cell where a part differs from what stands there, or how many cells there
+/// are where it doesn't.
 pub(crate) fn least_differing(cells: &[Cell], part: &[Cell], positions: &[Position]) -> u64
     requires few { length cells.now ≤ max_cells }
     requires inside { All (IsInside (length cells.now) (length part.now)) positions.now }

@@ -1,6 +1,7 @@
 ghost use Rattle.std.specs.Prelude.{◌≡◌, ◌<◌, ◌≤◌, All, length};
 ghost use Rattle.sh_base.specs.Shape.{max_cells};
-ghost use Rattle.sh_grid.specs.Grid.{AreAxesOf, IsGrid, max_devices};
+ghost use Rattle.sh_grid.specs.Grid.{AreAxesOf, IsGrid};
+ghost use Rattle.sh_base.specs.Limits.{max_devices};
 ghost use Rattle.sh_sharding.specs.LocalTypes.{local_dim};
 ghost use Rattle.sh_sharding.specs.Sharding.{IsDimension, IsMarked, IsSharding, dimension_of, is_even, offset_at, parts_of, whole_of};
 
@@ -62,8 +63,8 @@ pub fn axes(s: &Sharding, dim: u64) -> &Shape
     &dimension(s, dim).axes
 }
 
-/// How many cells a shard holds besides its own along a dimension, at its start and at its end; 0 and 0
-/// where it has no halo.
+/// How many cells a shard holds besides its own along a dimension, at its start and at its end; 0
+/// and 0 where it has no halo.
 pub fn halo(s: &Sharding, dim: u64) -> (u64, u64)
     requires { dim < length s.now.dimensions }
     ensures low { result.0 ≡ (dimension_of s.now dim).low }
@@ -107,8 +108,8 @@ pub fn is_even(s: &Sharding, dim: u64) -> bool
         && is_even_division(d.extent, part_count(s, dim), is_balanced_mark(&d.mark))
 }
 
-/// The extent of the local tensors along a dimension, halos included: `Differs` unless all parts have one
-/// size.
+/// The extent of the local tensors along a dimension, halos included: `Differs` unless all parts
+/// have one size.
 pub fn local_extent(s: &Sharding, dim: u64) -> Dim
     requires { dim < length s.now.dimensions }
     ensures { result ≡ local_dim s.now.grid.extents (dimension_of s.now dim) }

@@ -136,10 +136,10 @@ fn spelling_laws(s: &Sharding)
     let _whole = whole(s);
 }
 
-/// The sharding as a text writes it, in normal form: lists of axes up to the last dimension that is split,
-/// or one empty list where none is; halo sizes where some dimension has a halo, and offsets where some
-/// dimension isn't balanced, then of each dimension that is split. For a tensor of the same shape
-/// it is admitted, and stands for this sharding.
+/// The sharding as a text writes it, in normal form: lists of axes up to the last dimension that is
+/// split, or one empty list where none is; halo sizes where some dimension has a halo, and offsets
+/// where some dimension isn't balanced, then of each dimension that is split. For a tensor of the
+/// same shape it is admitted, and stands for this sharding.
 ///
 /// Errors: `Mem` where memory is wanting.
 pub fn raw(alloc: Global, s: &Sharding) -> Result<RawSharding, Mem>

@@ -16,8 +16,8 @@ use std::alloc::Global;
 /// Why parts can't be put together.
 #[derive(Debug, Drop)]
 pub enum Put {
-    /// Two owners of a cell hold it differently: the first such cell, by its row-major number in the
-    /// whole, and the first device that holds it otherwise than its first owner.
+    /// Two owners of a cell hold it differently: the first such cell, by its row-major number in
+    /// the whole, and the first device that holds it otherwise than its first owner.
     Differ { device: u64, cell: u64 },
     /// Memory is wanting.
     Mem,
@@ -103,9 +103,9 @@ fn compare(
     Ok(())
 }
 
-/// The whole tensor that the parts of all devices, halos included, hold together: at each index the cell
-/// that all its owners hold. It is refused where two owners differ, and where memory is wanting. The
-/// parts of a tensor's cuts give that tensor again.
+/// The whole tensor that the parts of all devices, halos included, hold together: at each index the
+/// cell that all its owners hold. It is refused where two owners differ, and where memory is
+/// wanting. The parts of a tensor's cuts give that tensor again.
 pub fn put_together(
     alloc: Global,
     parts: &Vec<Tensor>,

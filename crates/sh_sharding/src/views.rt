@@ -59,8 +59,8 @@ pub enum MarkView<'a> {
     Listed(Listing<'a>),
 }
 
-/// How one dimension is divided, without taking memory: a description, which may be that of no admitted
-/// sharding.
+/// How one dimension is divided, without taking memory: a description, which may be that of no
+/// admitted sharding.
 #[derive(Clone, Copy, Debug)]
 pub struct DimensionView<'a> {
     /// The extent of the whole tensor.

@@ -21,7 +21,8 @@ use Rattle.sh_ir.specs.declared.operations.Op.{Op}
 use Rattle.sh_ir.specs.declared.types.ValueType.{ValueType}
 use Rattle.sh_ir.specs.Faults.{call_faults, faults_by, func_faults, funcs_faults, grid_faults, keeps_call, keeps_func, keeps_grid, keeps_return, limit_faults, return_faults, the_limits}
 use Rattle.sh_ir.specs.Formed.{cuts_in, func_types}
-use Rattle.sh_ir.specs.Limits.{has_few_cells, has_few_devices, has_few_dims, has_few_inputs, has_few_loops, max_axes}
+use Rattle.sh_ir.specs.Limits.{has_few_cells, has_few_devices, has_few_dims, has_few_inputs, has_few_loops}
+use Rattle.sh_base.specs.Limits.{max_axes}
 use Rattle.sh_ir.specs.RegionRules.{keeps_at_yield, keeps_in_region}
 use Rattle.sh_ir.specs.Rules.{loop_count, op_types_of, body_faults, faults_at, keeps, op_faults, ops_faults, refusal_at, region_faults}
 use Rattle.sh_ir.specs.RegionRules.{block_of, own_after}

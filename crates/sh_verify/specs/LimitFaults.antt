@@ -12,7 +12,8 @@ use Rattle.sh_ir.specs.declared.modules.Module.{Module}
 use Rattle.sh_ir.specs.declared.operations.Op.{Op}
 use Rattle.sh_ir.specs.declared.types.ValueType.{ValueType}
 use Rattle.sh_ir.specs.Formed.{cuts_in, types_in}
-use Rattle.sh_ir.specs.Limits.{has_few_cells, has_few_devices, has_few_dims, has_few_inputs, has_few_loops, instructions_in, is_source, max_axes, max_instructions, max_operations, operations_in}
+use Rattle.sh_ir.specs.Limits.{has_few_cells, has_few_devices, has_few_dims, has_few_inputs, has_few_loops, instructions_in, is_source, max_instructions, max_operations, operations_in}
+use Rattle.sh_base.specs.Limits.{max_axes}
 use Rattle.sh_ir.specs.Rules.{op_types_of}
 use Rattle.sh_ir.specs.Written.{ResultText, written_by, written_in_body}
 use Rattle.sh_ir.specs.Written.ResultText.{a_type, a_width, unwritten}

@@ -2,7 +2,8 @@ ghost use Rattle.std.specs.Prelude.{◌≡◌, [], ◌+◌, IfErr, None, OnOk, f
 ghost use Rattle.sh_base.specs.Shape.{cell_count};
 ghost use Rattle.sh_ir.specs.Faults.{limit_faults};
 ghost use Rattle.std.specs.List.{list_all};
-ghost use Rattle.sh_ir.specs.Limits.{has_few_cells, has_few_devices, has_few_dims, max_devices};
+ghost use Rattle.sh_ir.specs.Limits.{has_few_cells, has_few_devices, has_few_dims};
+ghost use Rattle.sh_base.specs.Limits.{max_devices};
 ghost use Rattle.sh_ir.specs.Numbers.{as_natural, as_naturals};
 ghost use Rattle.sh_verify.specs.Least.{IsLeast, by_place, least_of};
 ghost use Rattle.sh_verify.specs.LimitFaults.{all_in_func, call_limits, func_head_limits, func_limits, grid_limits, has_few_instructions, has_few_operations, module_limits};

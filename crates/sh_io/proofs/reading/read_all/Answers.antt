@@ -1,7 +1,7 @@
 use Rattle.std.proofs.Common.{◌≡◌, ◌≤◌, ◌+◌, arith, rules, take, ◌++◌, length}
 use Rattle.std.proofs.lemmas.Grind.{common_steps}
 use Rattle.std.proofs.KnownBytes.{Consumes-trans}
-use Rattle.sh_io.specs.Reading.{max_bytes}
+use Rattle.sh_base.specs.Limits.{max_bytes}
 use Rattle.sh_io.proofs.reading.read_all.Goals as goal
 
 pub returns-then-len-n-gt-MAX_BYTES-clause-all : goal.returns-then-len-n-gt-MAX_BYTES-clause-all

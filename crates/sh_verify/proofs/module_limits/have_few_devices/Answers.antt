@@ -2,7 +2,7 @@ use mathlib.Core.Path.{◌∙◌, ap, sym}
 use Rattle.std.proofs.Common.{◌≡◌, ◌*◌, ◌+◌, ◌≤◌, drop, min, arith}
 use Rattle.std.specs.Prelude.{get_or, pos}
 use Rattle.sh_base.specs.Shape.{cell_count}
-use Rattle.sh_ir.specs.Limits.{max_devices}
+use Rattle.sh_base.specs.Limits.{max_devices}
 use Rattle.sh_ir.specs.Numbers.{as_natural, as_naturals}
 use Rattle.sh_verify.proofs.CellLaws.{cut_more}
 use Rattle.sh_verify.proofs.LeastLaws.{default_drop}

@@ -1,6 +1,6 @@
 use Rattle.std.proofs.Common.{◌≡◌, ◌*◌, ◌+◌, ◌≤◌, drop, min}
 use Rattle.sh_base.specs.Shape.{cell_count}
-use Rattle.sh_ir.specs.Limits.{max_devices}
+use Rattle.sh_base.specs.Limits.{max_devices}
 use Rattle.sh_ir.specs.Numbers.{as_naturals}
 use Rattle.sh_verify.proofs.module_limits.have_few_devices.Given as goal
 

@@ -25,14 +25,16 @@ no_fault true r e = refl
 no_fault false r e = absurd (cc)
 
 -- What the rule asks at the operation's own place.
-pub kept_here : (rule : Rule) (scope : Scope) (op : Op) → KeepsOp rule scope op → keeps rule scope op ≡ true
+pub kept_here : (rule : Rule) (scope : Scope) (op : Op) → KeepsOp rule scope op
+    → keeps rule scope op ≡ true
 unfolding op_faults
 kept_here rule scope op kept =
     no_fault (keeps rule scope op) (refusal_at op.place rule)
     (left_empty (faults_at op.place (rule ∷ []) (λ r. keeps r scope op)) (region_faults (rule ∷ []) scope op.kind) kept)
 
 -- And in its region.
-pub kept_inside : (rule : Rule) (scope : Scope) (op : Op) → KeepsOp rule scope op → region_faults (rule ∷ []) scope op.kind ≡ []
+pub kept_inside : (rule : Rule) (scope : Scope) (op : Op) → KeepsOp rule scope op
+    → region_faults (rule ∷ []) scope op.kind ≡ []
 unfolding op_faults
 kept_inside rule scope op kept =
     right_empty (faults_at op.place (rule ∷ []) (λ r. keeps r scope op)) (region_faults (rule ∷ []) scope op.kind) kept
@@ -50,15 +52,20 @@ keeps_op rule scope op here inside =
 
 -- ---- operations one after the other
 
-pub kept_first : (rule : Rule) (scope : Scope) (op : Op) (ops : List Op) → KeepsOps rule scope (op ∷ ops) → KeepsOp rule scope op
-kept_first rule scope op ops kept = left_empty (op_faults (rule ∷ []) scope op) (ops_faults (rule ∷ []) (scope_after scope op) ops) kept
+pub kept_first : (rule : Rule) (scope : Scope) (op : Op) (ops : List Op)
+    → KeepsOps rule scope (op ∷ ops) → KeepsOp rule scope op
+kept_first rule scope op ops kept =
+    left_empty (op_faults (rule ∷ []) scope op) (ops_faults (rule ∷ []) (scope_after scope op) ops) kept
 
-pub kept_rest : (rule : Rule) (scope : Scope) (op : Op) (ops : List Op) → KeepsOps rule scope (op ∷ ops) → KeepsOps rule (scope_after scope op) ops
-kept_rest rule scope op ops kept = right_empty (op_faults (rule ∷ []) scope op) (ops_faults (rule ∷ []) (scope_after scope op) ops) kept
+pub kept_rest : (rule : Rule) (scope : Scope) (op : Op) (ops : List Op)
+    → KeepsOps rule scope (op ∷ ops) → KeepsOps rule (scope_after scope op) ops
+kept_rest rule scope op ops kept =
+    right_empty (op_faults (rule ∷ []) scope op) (ops_faults (rule ∷ []) (scope_after scope op) ops) kept
 
 pub keeps_next : (rule : Rule) (scope : Scope) (op : Op) (ops : List Op) → KeepsOp rule scope op
     → KeepsOps rule (scope_after scope op) ops → KeepsOps rule scope (op ∷ ops)
-keeps_next rule scope op ops here rest = both_empty (op_faults (rule ∷ []) scope op) (ops_faults (rule ∷ []) (scope_after scope op) ops) here rest
+keeps_next rule scope op ops here rest =
+    both_empty (op_faults (rule ∷ []) scope op) (ops_faults (rule ∷ []) (scope_after scope op) ops) here rest
 
 -- the scope behind some operations
 abbrev pub scope_behind : Scope → List Op → Scope
