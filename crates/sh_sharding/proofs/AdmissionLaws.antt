@@ -110,10 +110,20 @@ is_admitted g raw s views h ready le =
     let le' : counted_cells (map (largest_local g.extents) (sharding_of g raw s).dimensions) ≤ max_cells = subst (λ ns. counted_cells ns ≤ max_cells) ready.largest le in
     record { keeps = keeps_all g raw s h (cells_fit (sharding_of g raw s) max_cells (written_axes g raw s h) le') }
 
-pub is_too_large : (g : GridValue) (raw : RawSharding) (s : List ℕ) (views : List DimensionView) (r : Bool) → KeepsAllButSize g raw s → IsReady g raw s views → r ≡ false
-    → (counted_cells (map (largest_described g.extents) views) ≤ max_cells → r ≡ true) → IsLeastBroken A8 g raw s
-is_too_large g raw s views r h ready failed passes = record {
-  broken = λ kept. not_both r (passes (subst (λ ns. counted_cells ns ≤ max_cells) (sym ready.largest) (largest_fit (sharding_of g raw s) max_cells h.grid (written_axes g raw s h) kept.1))) failed;
+-- of an admitted sharding the largest local tensor is small
+pub admitted_small : (g : GridValue) (raw : RawSharding) (s : List ℕ) (views : List DimensionView)
+    → KeepsAllButSize g raw s → IsReady g raw s views → IsAdmitted g raw s
+    → counted_cells (map (largest_described g.extents) views) ≤ max_cells
+admitted_small g raw s views h ready admitted =
+    let kept : Keeps A8 g raw s = admitted.keeps A8 in
+    subst (λ ns. counted_cells ns ≤ max_cells) (sym ready.largest)
+    (largest_fit (sharding_of g raw s) max_cells h.grid (written_axes g raw s h) kept.1)
+
+-- what keeps all rules but that on sizes, and isn't admitted, breaks that one
+pub is_too_large : (g : GridValue) (raw : RawSharding) (s : List ℕ) (admitted : Bool) → KeepsAllButSize g raw s
+    → (IsAdmitted g raw s → admitted ≡ true) → admitted ≡ false → IsLeastBroken A8 g raw s
+is_too_large g raw s admitted h passes failed = record {
+  broken = λ kept. not_both admitted (passes (record { keeps = keeps_all g raw s h kept.1 })) failed;
   earlier = (h.lists.axes, (h.lists.once, (h.lists.few, (h.divisions, (h.halos.alone, (h.halos.counted, tt))))));
 }
 

@@ -6,7 +6,6 @@ use Rattle.std.proofs.lemmas.List.{at_drop_more, at_drop_all, append_assoc, appe
 use Rattle.std.proofs.lemmas.List.Elements.{All-drop}
 use Rattle.sh_base.proofs.IndexLaws.{cell_count-some}
 use Rattle.sh_grid.specs.Grid.{IsGrid, AreAxesOf}
-use Rattle.sh_sharding.specs.declared.shardings.Mark.{Mark}
 use Rattle.sh_sharding.specs.declared.shardings.Dimension.{Dimension}
 use Rattle.sh_sharding.specs.Sharding.{parts_of, part_of, offset_at, part_size, size_of_part, IsDivided, IsMarked, is_split}
 use Rattle.sh_sharding.specs.AxisLists.{natural, IsNatural}
@@ -73,9 +72,10 @@ has_room g d p halo view grid marked seen h =
     let sizes = sizes_seen g d p halo view seen h in
     record { sizes = sizes; small = halo_small g d halo marked.divided (some_parts g d grid marked.axes) sizes }
 
-pub made_haloed : (d : Dimension) (hs : List ℤ) (axes : List ℕ) (mark : Mark) (low high : ℕ) → axes ≡ d.axes → mark ≡ d.mark → low ≡ natural (get_or hs 0 (pos 0)) → high ≡ natural (get_or hs 1 (pos 0))
-    → record { extent = d.extent; axes = axes; mark = mark; low = low; high = high } ≡ haloed d hs
-made_haloed d hs axes mark low high ea em el eh = λ j. record { extent = d.extent; axes = ea j; mark = em j; low = el j; high = eh j }
+pub made_haloed : (d : Dimension) (hs : List ℤ) (low high : ℕ) → low ≡ natural (get_or hs 0 (pos 0))
+    → high ≡ natural (get_or hs 1 (pos 0))
+    → record { extent = d.extent; axes = d.axes; mark = d.mark; low = low; high = high } ≡ haloed d hs
+made_haloed d hs low high el eh = λ j. record { extent = d.extent; axes = d.axes; mark = d.mark; low = el j; high = eh j }
 
 pub halo_count-split : (d : Dimension) → is_split d ≡ true → 2 ≡ halo_count d
 unfolding halo_count

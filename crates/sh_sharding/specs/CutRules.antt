@@ -1,6 +1,6 @@
 -- What rule V10 asks of the cuts that a function in device form carries: where all of them are
 -- admitted, the types of its arguments and results are those of the local tensors.
-use Rattle.std.specs.Prelude.{◌≡◌, List, ◌++◌, Contains, MatchOption, ⊤}
+use Rattle.std.specs.Prelude.{◌≡◌, ◌++◌, Contains, MatchOption, ⊤}
 use Rattle.sh_base.specs.declared.places.Refusal.{Refusal}
 use Rattle.sh_base.specs.declared.rules.Rule.TheVariants.{V10}
 use Rattle.sh_grid.specs.Grid.{GridValue, IsGrid}

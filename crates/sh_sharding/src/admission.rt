@@ -4,7 +4,7 @@ ghost use Rattle.sh_sharding.specs.Admission.{IsAdmitted, IsRefusal, Keeps, Keep
 ghost use Rattle.sh_sharding.specs.AxisLists.{IsNatural, listed};
 ghost use Rattle.sh_sharding.specs.OffsetLists.{marked};
 ghost use Rattle.sh_sharding.specs.Sharding.{counted_cells};
-ghost use Rattle.sh_base.specs.Shape.{max_cells};
+ghost use Rattle.sh_base.specs.Shape.{max_cells, max_rank};
 ghost use Rattle.sh_base.specs.declared.rules.Rule.TheVariants.{A5};
 
 use crate::axis_lists::{all_listed, are_axes, are_distinct, listed_dimensions};
@@ -117,6 +117,17 @@ fn with_written_halos(
     }
 }
 
+/// Whether the largest local tensor isn't too large, so that all rules are kept.
+fn has_small_parts(g: &Grid, raw: &RawSharding, s: &Shape, dimensions: &[Dimension]) -> bool
+    requires kept { KeepsAllButSize g.now raw.now s.now }
+    requires dimensions { dimensions.now ≡ (sharding_of g.now raw.now s.now).dimensions }
+    requires few { length dimensions.now ≤ max_rank }
+    ensures { IsTrue result ↔ IsAdmitted g.now raw.now s.now }
+{
+    let views = dimension_views(dimensions);
+    is_local_small(g, &views[..dimensions.len()])
+}
+
 /// The dimensions, if the largest local tensor isn't too large.
 fn with_small_parts(
     g: &Grid,
@@ -131,8 +142,7 @@ fn with_small_parts(
     ensures refused { IfErr result (λ refusal. IsRefusal refusal g.now raw.now s.now) }
 {
     let _short = s.extents();
-    let views = dimension_views(dimensions.as_slice());
-    if !is_local_small(g, &views[..dimensions.len()]) {
+    if !has_small_parts(g, raw, s, dimensions.as_slice()) {
         return Err(AdmitRefusal::Broken(Rule::A8));
     }
     Ok(dimensions)

@@ -1,4 +1,4 @@
-ghost use Rattle.std.specs.Prelude.{◌≡◌, ◌*◌, ◌≤◌, ◌↔◌, pos, All, IfOk, IsTrue, MatchOption, count_by, length, slice_index_or};
+ghost use Rattle.std.specs.Prelude.{◌≡◌, ◌*◌, ◌≤◌, ◌↔◌, pos, All, IfOk, IsTrue, MatchOption, count_by, length, max, slice_index_or};
 ghost use Rattle.std.specs.List.{AllByRecursion};
 ghost use Rattle.sh_base.specs.Shape.{max_cells};
 ghost use Rattle.sh_grid.specs.Grid.{IsGrid};
@@ -50,6 +50,22 @@ fn number_at(numbers: &[i128], at: usize) -> u128
     }
 }
 
+/// The dimension with halos of these sizes.
+fn with_sizes(alloc: Global, d: &Dimension, low: u128, high: u128) -> Result<Dimension, Mem>
+    requires { max low high ≤ max_cells }
+    ensures { IfOk result (λ out. out ≡ record {
+        extent = d.now.extent; axes = d.now.axes; mark = d.now.mark; low = low; high = high }) }
+{
+    let own = d.mark.duplicate(alloc)?;
+    Ok(Dimension {
+        extent: d.extent,
+        axes: shape(alloc, d.axes.extents()),
+        mark: own,
+        low: low as u64,
+        high: high as u64,
+    })
+}
+
 /// The dimension with its halos, or `None` where one is longer than a part.
 fn haloed_dimension(
     alloc: Global,
@@ -71,14 +87,7 @@ fn haloed_dimension(
     if !are_parts_at_least(d.extent, parts, mark, low.max(high)) {
         return Ok(None);
     }
-    let own = d.mark.duplicate(alloc)?;
-    Ok(Some(Dimension {
-        extent: d.extent,
-        axes: shape(alloc, d.axes.extents()),
-        mark: own,
-        low: low as u64,
-        high: high as u64,
-    }))
+    Ok(Some(with_sizes(alloc, d, low, high)?))
 }
 
 /// How many of the written halo sizes are a dimension's.

@@ -1,4 +1,4 @@
-ghost use Rattle.std.specs.Prelude.{◌≡◌, ◌<◌, ◌≤◌, All, length};
+ghost use Rattle.std.specs.Prelude.{◌≡◌, ◌+◌, ◌*◌, ◌<◌, ◌≤◌, All, length};
 ghost use Rattle.sh_base.specs.Shape.{max_cells};
 ghost use Rattle.sh_grid.specs.Grid.{AreAxesOf, IsGrid};
 ghost use Rattle.sh_base.specs.Limits.{max_devices};
@@ -108,6 +108,14 @@ pub fn is_even(s: &Sharding, dim: u64) -> bool
         && is_even_division(d.extent, part_count(s, dim), is_balanced_mark(&d.mark))
 }
 
+/// The extent of a part of this size, halos included.
+fn haloed_size(d: &Dimension, size: u64) -> u64
+    requires { d.now.low + size + d.now.high ≤ 3 * max_cells }
+    ensures { result ≡ d.now.low + size + d.now.high }
+{
+    d.low + size + d.high
+}
+
 /// The extent of the local tensors along a dimension, halos included: `Differs` unless all parts
 /// have one size.
 pub fn local_extent(s: &Sharding, dim: u64) -> Dim
@@ -117,7 +125,7 @@ pub fn local_extent(s: &Sharding, dim: u64) -> Dim
     let d = dimension(s, dim);
     let Division { parts, mark } = division_of(grid(s), d);
     match common_size(d.extent, parts, mark) {
-        Some(size) => Dim::Known(d.low + size + d.high),
+        Some(size) => Dim::Known(haloed_size(d, size)),
         None => Dim::Differs,
     }
 }
