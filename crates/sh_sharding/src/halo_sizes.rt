@@ -54,7 +54,12 @@ fn number_at(numbers: &[i128], at: usize) -> u128
 fn with_sizes(alloc: Global, d: &Dimension, low: u128, high: u128) -> Result<Dimension, Mem>
     requires { max low high ≤ max_cells }
     ensures { IfOk result (λ out. out ≡ record {
-        extent = d.now.extent; axes = d.now.axes; mark = d.now.mark; low = low; high = high }) }
+      extent = d.now.extent;
+      axes = d.now.axes;
+      mark = d.now.mark;
+      low = low;
+      high = high;
+    }) }
 {
     let own = d.mark.duplicate(alloc)?;
     Ok(Dimension {

@@ -29,5 +29,5 @@ returns c =
     let sizes = (room (goal.at.returns c).After-are_parts_at_least c.if-not-are_parts_at_least.false).sizes in (
       halos_fit c.args.g.now.extents c.args.d.now c.args.halos.now c.number_at-low.result c.number_at-high.result c.number_at-low.ensures c.number_at-high.ensures (λ i l. rw (← c.max.ensures) (sizes i l)),
       c.in_ok-with_sizes.ensures
-      ∙ made_haloed c.args.d.now c.args.halos.now c.number_at-low.result c.number_at-high.result c.number_at-low.ensures c.number_at-high.ensures,
+          ∙ made_haloed c.args.d.now c.args.halos.now c.number_at-low.result c.number_at-high.result c.number_at-low.ensures c.number_at-high.ensures,
     )
