@@ -7,12 +7,12 @@ use Rattle.sh_grammar.specs.Grammar.Trees.{nothing, token, form}
 use Rattle.sh_grammar.specs.declared.forms.Form.{Form}
 use Rattle.sh_grammar.specs.declared.symbols.Event.{Event}
 use Rattle.sh_grammar.specs.declared.symbols.Event.TheVariants.{Opened}
-use Rattle.sh_parse.specs.Building.{made_of, parts_by}
-use Rattle.sh_parse.specs.Meaning.{made}
+use Rattle.sh_build.specs.Building.{made_of, parts_by}
+use Rattle.sh_build.specs.Meaning.{made}
 use Rattle.sh_parse.specs.Reads.{parts_of}
-use Rattle.sh_parse.specs.Rows.{firsts, past}
-use Rattle.sh_parse.specs.declared.parts.Part.{Part}
-use Rattle.sh_parse.specs.declared.parts.Part.TheVariants.{Nothing}
+use Rattle.sh_build.specs.Rows.{firsts, past}
+use Rattle.sh_build.specs.declared.parts.Part.{Part}
+use Rattle.sh_build.specs.declared.parts.Part.TheVariants.{Nothing}
 
 firsts_of : (xs ys : List Part) → firsts (length xs) (xs ++ ys) ≡ xs
 firsts_of [] ys = refl
@@ -23,7 +23,7 @@ past_of [] ys = refl
 past_of (x ∷ xs) ys = past_of xs ys
 
 -- a row of trees has as many parts as trees
-parts_counted : (ls : List Part) (f : Trees) → length (parts_of ls f) ≡ size f
+pub parts_counted : (ls : List Part) (f : Trees) → length (parts_of ls f) ≡ size f
 parts_counted ls nothing = refl
 parts_counted [] (token t behind) = ap suc (parts_counted [] behind)
 parts_counted (l ∷ ls) (token t behind) = ap suc (parts_counted ls behind)

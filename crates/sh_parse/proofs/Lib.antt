@@ -1,4 +1,8 @@
+mod Answering
 mod Backwards
-mod Behind
+mod FileParts
 mod OneReading
-mod SizesFit
+mod Refusing
+mod RowSteps
+mod Tables
+mod formed

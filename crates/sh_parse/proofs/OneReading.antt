@@ -5,15 +5,15 @@ use Rattle.sh_grammar.proofs.OneLanguage.{only_tree}
 use Rattle.sh_ir.specs.declared.modules.Module.{Module}
 use Rattle.sh_lex.proofs.Uniqueness.{same_tokens}
 use Rattle.sh_parse.specs.Reads.{Reads, TokensRead, file_part}
-use Rattle.sh_parse.specs.declared.parts.Part.{Part}
-use Rattle.sh_parse.specs.declared.parts.Part.TheVariants as part
+use Rattle.sh_build.specs.declared.parts.Part.{Part}
+use Rattle.sh_build.specs.declared.parts.Part.TheVariants as part
 
 -- the module of a part, where it is one
 module_or : Module → Part → Module
 module_or m (part.Module n) = n
 module_or m _ = m
 
-read_once : (ts : List Lexeme) (m n : Module) → TokensRead ts m → TokensRead ts n → m ≡ n
+pub read_once : (ts : List Lexeme) (m n : Module) → TokensRead ts m → TokensRead ts n → m ≡ n
 unfolding module_or
 read_once ts m n r s =
     let trees : r.trees ≡ s.trees = only_tree ts r.trees s.trees r.file s.file in

@@ -1,8 +1,3 @@
-pub mod Building
-pub mod Meaning
-pub mod Names
-pub mod Readings
+pub mod Answers
+pub mod Leaves
 pub mod Reads
-pub mod Rows
-pub mod Sizes
-pub mod Sections

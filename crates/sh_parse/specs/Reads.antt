@@ -16,13 +16,13 @@ use Rattle.sh_grammar.specs.declared.symbols.Event.{Event}
 use Rattle.sh_ir.specs.declared.linalg_ops.AffineMap.{AffineMap}
 use Rattle.sh_ir.specs.declared.modules.Module.{Module}
 use Rattle.sh_ir.specs.declared.types.Dim.TheVariants.{Known, Differs}
-use Rattle.sh_parse.specs.declared.parts.Alias.{Alias}
-use Rattle.sh_parse.specs.declared.parts.Part.{Part}
-use Rattle.sh_parse.specs.declared.parts.Part.TheVariants as part
-use Rattle.sh_parse.specs.Meaning.{made}
-use Rattle.sh_parse.specs.Names.{keep_rules, mentions, names_of, numbers_of, same_text}
-use Rattle.sh_parse.specs.Readings.{aliases_in}
-use Rattle.sh_parse.specs.Rows.{first_part}
+use Rattle.sh_build.specs.declared.parts.Alias.{Alias}
+use Rattle.sh_build.specs.declared.parts.Part.{Part}
+use Rattle.sh_build.specs.declared.parts.Part.TheVariants as part
+use Rattle.sh_build.specs.Meaning.{made}
+use Rattle.sh_names.specs.Names.{keep_rules, mentions, names_of, numbers_of, same_text}
+use Rattle.sh_build.specs.Readings.{aliases_in}
+use Rattle.sh_build.specs.Rows.{first_part}
 
 -- ## What a tree stands for
 

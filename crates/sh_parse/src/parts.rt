@@ -1,160 +1,121 @@
-use crate::boxed::Boxed;
-use sh_base::{BinOp, CastOp, Ids, Kind, Numbers, Place, Predicate, Text, Width};
-use sh_ir::{
-    AffineMap, Arg, BodyKind, BodyOp, CallItem, Carry, Constant, Cut, Dim, Func, GridAxes,
-    GridItem, IteratorType, Module, Op, OpKind, Types, ValueType,
-};
-use sh_literals::{Literal, Rest};
+ghost use Rattle.std.specs.Prelude.{◌≡◌, ◌≤◌, IfOk, drop, length};
+ghost use Rattle.std.specs.List.{prefix_len};
+ghost use Rattle.sh_build.specs.Building.{AreSized};
+ghost use Rattle.sh_build.specs.declared.parts.Part.TheVariants as part;
+ghost use Rattle.sh_grammar.specs.Lexemes.{lexemes};
+ghost use Rattle.sh_names.specs.Tables.{AreWithin, tooks};
+ghost use Rattle.sh_parse.specs.Answers.{IsFileBy, aliases_by, is_before as stands_before, part_by};
 
-/// Where a word, a sign or a value's name stands.
-#[derive(Clone, Copy)]
-pub struct Mark {
-    /// The number of the name, where it is one: the id of a value, the loop of a map's word.
-    pub id: u32,
-    pub place: Place,
+use crate::maps::Maps;
+use crate::rows::row_of;
+use sh_base::{Items, Mem};
+use sh_build::{Alias, rows_have_sizes};
+use sh_grammar::{Event, Form};
+use sh_ir::Module;
+use sh_lex::Token;
+use std::alloc::Global;
+
+fn is_before(event: Event) -> bool
+    ensures { result ≡ stands_before event }
+{
+    match event {
+        Event::Opened {
+            form: Form::Contents,
+            ..
+        } => false,
+        _ => true,
+    }
 }
 
-/// A `#name`, with the map that it is an alias of.
-#[derive(Drop)]
-pub struct Alias {
-    pub name: Text,
-    pub map: AffineMap,
+/// How many steps stand before the contents of a file.
+fn steps_before(events: &[Event]) -> usize
+    ensures within { result ≤ length events.now }
+    ensures count { result ≡ prefix_len stands_before events.now }
+{
+    let mut rest = events;
+    let mut count = 0;
+    while let Some((event, more)) = rest.split_first() {
+        if !is_before(*event) {
+            return count;
+        }
+        count += 1;
+        rest = more;
+    }
+    count
 }
 
-/// Names of values, and types: `%a, %b : T, U`.
-#[derive(Drop)]
-pub struct Operands {
-    pub values: Ids,
-    pub types: Types,
+/// How many tokens the steps take.
+fn tokens_in(events: &[Event]) -> usize
+    ensures within { result ≤ length events.now }
+    ensures count { result ≡ tooks events.now }
+{
+    let mut rest = events;
+    let mut count = 0;
+    while let Some((event, more)) = rest.split_first() {
+        match *event {
+            Event::Took => count += 1,
+            Event::Opened { .. } => {}
+        }
+        rest = more;
+    }
+    count
 }
 
-/// A `shardrun.device` item.
-#[derive(Drop)]
-pub struct Device {
-    /// The function that it is said of.
-    pub name: Text,
-    pub carry: Carry,
-    pub place: Place,
+/// The steps behind the first.
+fn behind_first(events: &[Event]) -> &[Event]
+    ensures { result.now ≡ drop 1 events.now }
+{
+    match events.split_first() {
+        Some((_, rest)) => rest,
+        None => events,
+    }
 }
 
-/// A structured operation that has no attributes.
-#[derive(Clone, Copy)]
-pub enum StructuredName {
-    Fill,
-    Matmul,
-    BatchMatmul,
-    Matvec,
-    Vecmat,
-    Dot,
-    Conv1d,
-    Conv2d,
+/// The aliases at the head of a file, whose own names stand for no maps.
+fn aliases(
+    alloc: Global,
+    text: &[u8],
+    tokens: &[Token],
+    ids: &[u32],
+    events: &[Event],
+) -> Result<Items<Alias>, Mem>
+    requires within { AreWithin text.now tokens.now }
+    requires tokens { tooks events.now ≡ length tokens.now }
+    requires ids { length ids.now ≡ length tokens.now }
+    requires sized { AreSized events.now }
+    ensures { IfOk result (λ aliases.
+        aliases ≡ aliases_by (lexemes text.now tokens.now) ids.now events.now) }
+{
+    let rest = behind_first(events);
+    let (head, _) = rest.split_at(steps_before(rest));
+    let count = tokens_in(head);
+    let (tokens, _) = tokens.split_at(count);
+    let (ids, _) = ids.split_at(count);
+    let maps = Maps::none(alloc);
+    let row = row_of(alloc, text, tokens, ids, &maps, head)?;
+    Ok(row.into_first().aliases(alloc).into_items())
 }
 
-/// The operation of a short `linalg.reduce`.
-#[derive(Clone, Copy)]
-pub struct Combiner {
-    pub op: BinOp,
-    /// Where it stands, and the first of its three names.
-    pub mark: Mark,
-}
-
-/// An operation of a region without its name.
-#[derive(Drop)]
-pub struct Arith {
-    pub kind: BodyKind,
-    pub operands: Ids,
-    pub result: ValueType,
-}
-
-/// An operation of a function without its name.
-#[derive(Drop)]
-pub struct RightSide {
-    pub kind: OpKind,
-    pub operands: Ids,
-    pub result: ValueType,
-}
-
-/// The operations of a region, or the last of them, and its yield.
-#[derive(Drop)]
-pub struct BodyTail {
-    pub ops: Rest<BodyOp>,
-    pub yields: u32,
-    pub width: Width,
-    /// Where the yield stands.
-    pub place: Place,
-}
-
-/// The items of a module.
-#[derive(Drop)]
-pub struct Contents {
-    pub grids: Rest<GridItem>,
-    pub funcs: Rest<Func>,
-    pub calls: Rest<CallItem>,
-}
-
-/// What a piece of a text stands for: a token, or a form of the grammar.
-#[derive(Drop)]
-pub enum Part {
-    /// What no piece of a file stands for.
-    Nothing,
-
-    // tokens
-    Mark(Mark),
-    /// A name behind `@`.
-    Symbol(Text),
-    /// A name behind `#`.
-    Alias(Alias),
-    Number(u64),
-    Dim(Dim),
-    /// The bytes between quotes.
-    Quoted(Text),
-
-    // what several forms stand for
-    Flag(bool),
-    Signed(i128),
-    Numbers(Rest<i128>),
-    Lists(Rest<Numbers>),
-    Ids(Rest<u32>),
-    Width(Width),
-    Type(ValueType),
-    Types(Rest<ValueType>),
-    Dims(Rest<Dim>),
-    Operands(Operands),
-    Map(AffineMap),
-    Maps(Rest<AffineMap>),
-    Iterators(Rest<IteratorType>),
-    On(GridAxes),
-    Literal(Literal),
-    Constant(Boxed<Constant>),
-    Constants(Rest<Constant>),
-    Arg(Boxed<Arg>),
-    Args(Rest<Arg>),
-    Cut(Boxed<Cut>),
-    Cuts(Rest<Cut>),
-
-    // names of operations
-    BinOp(BinOp),
-    Predicate(Predicate),
-    CastOp(CastOp),
-    Structured(StructuredName),
-    Kind(Kind),
-    Combiner(Combiner),
-
-    // operations
-    Arith(Boxed<Arith>),
-    RightSide(Boxed<RightSide>),
-    BodyOp(Boxed<BodyOp>),
-    BodyTail(BodyTail),
-    Op(Boxed<Op>),
-    Ops(Rest<Op>),
-
-    // items
-    Aliases(Rest<Alias>),
-    Device(Boxed<Device>),
-    ModuleName(Option<Text>),
-    Grid(Boxed<GridItem>),
-    Func(Boxed<Func>),
-    Call(Boxed<CallItem>),
-    Contents(Contents),
-    Module(Boxed<Module>),
+/// The module of a file, by its steps and the numbers of its tokens' names.
+pub(crate) fn module_of(
+    alloc: Global,
+    text: &[u8],
+    tokens: &[Token],
+    ids: &[u32],
+    events: &[Event],
+) -> Result<Module, Mem>
+    requires within { AreWithin text.now tokens.now }
+    requires ids { length ids.now ≡ length tokens.now }
+    requires file { IsFileBy (lexemes text.now tokens.now) events.now }
+    ensures { IfOk result (λ m.
+        part_by (lexemes text.now tokens.now) ids.now events.now ≡ part.Module m) }
+{
+    rows_have_sizes();
+    let aliases = aliases(alloc, text, tokens, ids, events)?;
+    let maps = Maps::new(alloc, aliases.as_slice())?;
+    let row = row_of(alloc, text, tokens, ids, &maps, events)?;
+    match row.into_module() {
+        Some(module) => Ok(module),
+        None => unreachable!(),
+    }
 }

@@ -1,2 +1,5 @@
 mod Small
 mod Worked
+mod Forms
+mod Stops
+mod Refusals

@@ -7,7 +7,7 @@ use Rattle.sh_grammar.specs.Lexemes.{bangs, class_of, dims, first_class, former_
 use Rattle.sh_ir.specs.declared.arith_ops.Contents.{Contents}
 use Rattle.sh_ir.specs.declared.arith_ops.Contents.TheVariants.{Broken, Held}
 use Rattle.sh_lex.specs.Tokens.{is_blank, is_digit, is_letter, is_line_byte, is_name_byte, is_string_byte, is_value_byte}
-use Rattle.sh_parse.specs.Meaning.{made}
+use Rattle.sh_build.specs.Meaning.{made}
 use Rattle.sh_parse_tests.specs.Texts.{Numbered, keeps_names, lines, literals_in, numbered_ops, part_of, the_table}
 
 -- ## Names

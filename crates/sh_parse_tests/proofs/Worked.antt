@@ -17,8 +17,8 @@ use Rattle.sh_ir.specs.declared.types.ValueType.{ValueType}
 use Rattle.sh_ir.specs.declared.types.ValueType.TheVariants as value_type
 use Rattle.sh_ir_tests.specs.Network.{filled, note_op, on_line, place_of, sharding_op, the_network}
 use Rattle.sh_lex.specs.Tokens.{is_blank, is_digit, is_letter, is_line_byte, is_name_byte, is_string_byte, is_value_byte}
-use Rattle.sh_parse.specs.Meaning.{made}
-use Rattle.sh_parse.specs.declared.parts.Part.TheVariants as part
+use Rattle.sh_build.specs.Meaning.{made}
+use Rattle.sh_build.specs.declared.parts.Part.TheVariants as part
 use Rattle.sh_parse_tests.specs.Texts.{lines, part_of, the_table}
 
 -- ## A sum of two vectors

@@ -1,10 +1,9 @@
 -- What a text stands for, computed: for examples. The tokens and the tree are found here in one way
 -- that computes; the definitions ask for any.
 use Prim.Native.String.{String}
-use Rattle.std.specs.Prelude.{ℕ, zero, suc, ◌+◌, ◌-◌, ◌*◌, List, [], ◌∷◌, ◌++◌, length, take, drop, get_or, flat_map, map, Option, Bool, true, false, ◌||◌, nat_eq, codes, if◌then◌else◌}
+use Rattle.std.specs.Prelude.{ℕ, zero, suc, ◌+◌, ◌-◌, ◌*◌, List, [], ◌∷◌, ◌++◌, length, take, drop, get_or, flat_map, map, Option, Bool, nat_eq, codes, if◌then◌else◌}
 use Rattle.std.specs.List.{prefix_len}
 use Rattle.std.specs.Cmp.Lexicographic.{pointwise}
-use Rattle.sh_base.specs.declared.places.Place.{Place}
 use Rattle.sh_lex.specs.Tokens.{is_blank, is_letter, is_digit, is_name_byte, is_value_byte, is_string_byte, is_line_byte}
 use Rattle.sh_lex.specs.declared.tokens.TokenKind.{TokenKind}
 use Rattle.sh_lex.specs.declared.tokens.TokenKind.TheVariants.{Word, Val, At, Hash, Block, Bang, Number, Dim, Str, Sign, End}
@@ -19,15 +18,17 @@ use Rattle.sh_grammar.specs.declared.forms.Form.{Form}
 use Rattle.sh_grammar.specs.declared.symbols.Symbol.{Symbol}
 use Rattle.sh_grammar.specs.declared.symbols.Symbol.TheVariants.{Class, Part}
 use Rattle.std.specs.Option.{option_map_or}
-use Rattle.sh_ir.specs.Formed.{constants_of}
+use Rattle.sh_ir.specs.Formed.{body_ops_of, constants_of, ops_of}
 use Rattle.sh_ir.specs.Written.{written_by}
 use Rattle.sh_ir.specs.declared.arith_ops.Contents.{Contents}
 use Rattle.sh_ir.specs.declared.bodies.Body.{Body}
+use Rattle.sh_ir.specs.declared.bodies.BodyKind.{BodyKind}
 use Rattle.sh_ir.specs.declared.operations.Op.{Op}
-use Rattle.sh_parse.specs.Names.{keep_rules, mentions}
+use Rattle.sh_ir.specs.declared.operations.OpKind.{OpKind}
+use Rattle.sh_names.specs.Names.{keep_rules, mentions}
 use Rattle.sh_parse.specs.Reads.{file_part}
-use Rattle.sh_parse.specs.declared.parts.Part.TheVariants as parts
-use Rattle.sh_parse.specs.declared.parts.Part as part
+use Rattle.sh_build.specs.declared.parts.Part.TheVariants as parts
+use Rattle.sh_build.specs.declared.parts.Part as part
 
 -- these lines, each with its end
 abbrev pub lines : List String → List ℕ
@@ -180,3 +181,13 @@ keeps_rules_by ts f = keep_rules (mentions (events f) ts)
 
 abbrev pub keeps_names : List ℕ → Bool
 keeps_names text = keeps_rules_by (tokens_in text) (tree_in (tokens_in text))
+
+-- what the operations of a module are
+abbrev pub kinds_in : part.Part → List OpKind
+kinds_in (parts.Module m) = map (λ op. op.kind) (ops_of m)
+kinds_in _ = []
+
+-- and those of its regions
+abbrev pub body_kinds_in : part.Part → List BodyKind
+body_kinds_in (parts.Module m) = map (λ op. op.kind) (body_ops_of m)
+body_kinds_in _ = []

@@ -1,0 +1,22 @@
+-- What is read is formed.
+pub mod EachOf
+pub mod RowFacts
+pub mod PartsKept
+pub mod ContentsKept
+pub mod LiteralsKept
+pub mod SidesKept
+pub mod RowsKeep
+pub mod ModulesFormed
+pub mod TokensKept
+pub mod NumbersOfNames
+pub mod Walks
+pub mod States
+pub mod MapsNumbered
+pub mod TreesKeep
+pub mod QuietForms
+pub mod UsedNames
+pub mod UsedRows
+pub mod RegionNames
+pub mod RegionRows
+pub mod FunctionRows
+pub mod FilesFormed

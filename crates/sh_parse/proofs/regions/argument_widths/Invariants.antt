@@ -1,6 +1,0 @@
-use Rattle.std.proofs.Common.{◌≡◌, map, take}
-use Rattle.sh_parse.specs.Meaning.{cell_width}
-use Rattle.sh_parse.proofs.regions.argument_widths.Given as goal
-
-abbrev pub invariant-loop-arg : goal.invariant-loop-arg
-invariant-loop-arg l = l.widths.items ≡ map (λ arg. cell_width arg.value_type) (take l.arg-index l.arg-items)
