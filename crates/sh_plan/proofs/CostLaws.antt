@@ -103,7 +103,7 @@ map-pointwise f h e [] = refl
 map-pointwise f h e (x ∷ xs) = rw (e x, map-pointwise f h e xs) refl
 
 -- what a device receives, and what it had, is what its part holds afterwards
-is_received : (g : List ℕ) (before after : List Dimension) (device : ℕ) → length before ≡ length after →
+pub is_received : (g : List ℕ) (before after : List Dimension) (device : ℕ) → length before ≡ length after →
     received g before after device + common_cells g device before after ≡ part_cells g device after
 unfolding received
 is_received g before after device same =

@@ -27,7 +27,7 @@ counted_some [] = omega arith
 counted_some (n ∷ ns) = mul-le-mul {n₁ = 1} {m₁ = 1} {n₂ = max 1 n} (omega arith) (counted_some ns)
 
 -- the product over the first dimensions is no more than a tensor's cells
-front_within : (g : List ℕ) (device : ℕ) (ds : List Dimension) (i : ℕ) → AllByRecursion (IsPlaced g device) ds →
+pub front_within : (g : List ℕ) (device : ℕ) (ds : List Dimension) (i : ℕ) → AllByRecursion (IsPlaced g device) ds →
     cell_count (map (size_in g device) (take i ds)) ≤ counted_cells (map (λ d. d.extent) ds)
 front_within g device ds zero all = counted_some (map (λ d. d.extent) ds)
 front_within g device [] (suc i) all = omega arith
@@ -43,7 +43,7 @@ common_within g device (d ∷ ds) [] e = absurd (omega arith)
 common_within g device (d ∷ ds) (x ∷ es) e =
     mul-le-mul {n₁ = common_length g device d x} {n₂ = size_in g device x} (omega arith) (common_within g device ds es (omega arith))
 
-held_more : (g : List ℕ) (device : ℕ) (es : List Dimension) (i : ℕ) → i < length es →
+pub held_more : (g : List ℕ) (device : ℕ) (es : List Dimension) (i : ℕ) → i < length es →
     cell_count (map (size_in g device) (take (suc i) es)) ≡ cell_count (map (size_in g device) (take i es)) * size_in g device (at es i)
 held_more g device [] i within = absurd (omega arith)
 held_more g device (x ∷ es) zero within = omega arith

@@ -15,7 +15,7 @@ use Rattle.sh_ways.specs.Rows.{IsEdgeOf, IsNumbering, edges_at}
 use Rattle.sh_plan.specs.declared.moves.Move.{Move}
 use Rattle.sh_plan.specs.declared.moves.Move.TheVariants.{M1, M2, M3, M4, M5}
 use Rattle.sh_plan.specs.Costs.{cost_between, reshards}
-use Rattle.sh_plan.specs.Moves.{IsNamedAt, after, at, candidates, last_axis, may_be, moved, moves_at, moves_from, with_axis, without_last}
+use Rattle.sh_plan.specs.Moves.{IsNamedAt, IsStep, after, at, candidates, last_axis, may_be, moved, moves_at, moves_from, with_axis, without_last}
 use Rattle.sh_plan.specs.States.{AreEdges, IsNumber, IsRowOf, IsStateTo, KeepsNumbers, keys_of, towards}
 use Rattle.sh_plan.proofs.CandidateSteps.{all_named}
 use Rattle.sh_plan.proofs.Numbers.{image}
@@ -44,6 +44,18 @@ moved_to to s next m is e state = record {
   state = state;
   grid = ap (λ (x : ShardingValue). x.grid) e ∙ is.grid;
   whole = ap whole_of e ∙ extents_kept to.dimensions s.dimensions m is.whole ∙ is.whole;
+}
+
+-- a move that is made is a step
+pub is_step : (to s next : ShardingValue) (m : Move) → IsStateTo to s → IsStateTo to next → next.dimensions ≡ after to.dimensions s.dimensions m → IsNamedAt s m → may_be s to m ≡ true →
+    IsStep s next m
+is_step to s next m is then made named allowed = record {
+  to = to;
+  named = named;
+  allowed = allowed;
+  grid = then.grid ∙ sym is.grid;
+  whole = then.whole ∙ sym is.whole;
+  made = made;
 }
 
 -- the edge of a move

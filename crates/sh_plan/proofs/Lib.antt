@@ -21,3 +21,12 @@ mod PlaceSteps
 mod CheckSteps
 mod WaySteps
 mod TableCheck
+mod Inside
+mod AxisMore
+mod DeviceSums
+mod StepCosts
+mod HeldSteps
+mod ReplicationCounts
+mod ReplicationWays
+pub mod Replication
+mod ReplicationExamples

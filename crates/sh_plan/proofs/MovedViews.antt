@@ -84,14 +84,14 @@ pub record IsExchange (s : ShardingValue) (d e : ℕ) : Type 0 where
   pub balanced : (at s.dimensions e).mark ≡ Balanced
   pub state : IsState (with_dimension (with_dimension s d (without_last (at s.dimensions d))) e (with_axis (at s.dimensions e) (last_axis (at s.dimensions d))))
 
-other_at : (ds : List Dimension) (d e : ℕ) (x : Dimension) → d ≢ e → at (set ds d x) e ≡ at ds e
+pub other_at : (ds : List Dimension) (d e : ℕ) (x : Dimension) → d ≢ e → at (set ds d x) e ≡ at ds e
 other_at [] d e x h = refl
 other_at (y ∷ ds) zero zero x h = absurd (h refl)
 other_at (y ∷ ds) zero (suc e) x h = refl
 other_at (y ∷ ds) (suc d) zero x h = refl
 other_at (y ∷ ds) (suc d) (suc e) x h = other_at ds d e x (λ q. h (ap suc q))
 
-differ : (d e : ℕ) → (d == e) ≡ false → d ≢ e
+pub differ : (d e : ℕ) → (d == e) ≡ false → d ≢ e
 differ d e h q =
     let own : (d == e) ≡ true = rw q (same e) in
     cc
@@ -122,6 +122,11 @@ exchange s d e state d_in e_in h =
       balanced = rw other at a.balanced;
       state = rw other at a.state;
     }
+
+-- the state where the dimensions are so
+pub exchanged : (s : ShardingValue) (d e : ℕ) (x y : Dimension) → IsState s → d < length s.dimensions → e < length s.dimensions → may s.grid.extents [] s.dimensions (M3 d e) ≡ true →
+    x ≡ without_last (at s.dimensions d) → y ≡ with_axis (at s.dimensions e) (last_axis (at s.dimensions d)) → IsState (with_dimension (with_dimension s d x) e y)
+exchanged s d e x y state d_in e_in h x_is y_is = rw (x_is, y_is) (exchange s d e state d_in e_in h).state
 
 -- what lets an axis be appended
 pub appended_by : (s : ShardingValue) (ts : List Dimension) (d a : ℕ) → IsState s → d < length s.dimensions → a < length s.grid.extents → may s.grid.extents ts s.dimensions (M2 d a) ≡ true →

@@ -14,20 +14,19 @@ use Rattle.sh_grid.specs.Grid.{GridValue}
 use Rattle.sh_sharding.specs.Order.{order_of}
 use Rattle.sh_sharding.specs.Sharding.{ShardingValue}
 use Rattle.sh_sharding.proofs.OrderLaws.{same_place, total_order}
-use Rattle.sh_plan.specs.declared.apart.Splitting.{Splitting}
 use Rattle.sh_plan.specs.declared.plans.Distance.{Distance}
 use Rattle.sh_plan.specs.Plans.{IsRising}
-use Rattle.sh_plan.specs.States.{IsStateTo, keys_of, same_splitting, splittings_of}
+use Rattle.sh_plan.specs.States.{IsStateTo, code_of, keys_of}
 use Rattle.sh_plan.specs.Tables.{AreOn, HasNumber, IsTable, dimensions_on, is_before}
 use Rattle.sh_plan.proofs.Numbers.{all_get, at_image, image, own_code, same_codes}
 
 -- ---- entries apart
 
-abbrev code : Distance → List Splitting
-code e = splittings_of e.sharding.dimensions
+abbrev code : Distance → List ℕ
+code e = code_of e.sharding.dimensions
 
 abbrev alike : Distance → Distance → Bool
-alike a b = pointwise same_splitting (code a) (code b)
+alike a b = pointwise nat_eq (code a) (code b)
 
 both_ways : (a b : Bool) → (a ≡ true → b ≡ true) → (b ≡ true → a ≡ true) → a ≡ b
 both_ways true b f h = sym (f refl)
@@ -39,7 +38,7 @@ flips a b = both_ways (alike a b) (alike b a)
     (λ e. let same = same_codes (code a) (code b) e in rw same (own_code (code b)))
     (λ e. let same = same_codes (code b) (code a) e in rw same (own_code (code a)))
 
-all_apart : (e : Distance) (es : List Distance) → AllByRecursion (λ y. pointwise same_splitting (code e) y ≡ false) (map splittings_of (keys_of (map (λ x. x.sharding) es))) →
+all_apart : (e : Distance) (es : List Distance) → AllByRecursion (λ y. pointwise nat_eq (code e) y ≡ false) (map code_of (keys_of (map (λ x. x.sharding) es))) →
     AllByRecursion (λ y. alike e y ≡ false) es
 all_apart e [] all = tt
 all_apart e (x ∷ es) all = (all.0, all_apart e es all.1)
@@ -48,11 +47,11 @@ none_apart : IsDistinct alike []
 unfolding IsDistinct
 none_apart = tt
 
-entries_apart : (es : List Distance) → IsDistinct (pointwise same_splitting) (map splittings_of (keys_of (map (λ x. x.sharding) es))) → IsDistinct alike es
+entries_apart : (es : List Distance) → IsDistinct (pointwise nat_eq) (map code_of (keys_of (map (λ x. x.sharding) es))) → IsDistinct alike es
 entries_apart [] d = none_apart
 entries_apart (e ∷ es) d =
-    IsDistinct-cons alike e es (all_apart e es (IsDistinct-head (pointwise same_splitting) (code e) (map splittings_of (keys_of (map (λ x. x.sharding) es))) d))
-    (entries_apart es (IsDistinct-tail (pointwise same_splitting) (code e) (map splittings_of (keys_of (map (λ x. x.sharding) es))) d))
+    IsDistinct-cons alike e es (all_apart e es (IsDistinct-head (pointwise nat_eq) (code e) (map code_of (keys_of (map (λ x. x.sharding) es))) d))
+    (entries_apart es (IsDistinct-tail (pointwise nat_eq) (code e) (map code_of (keys_of (map (λ x. x.sharding) es))) d))
 
 -- ---- rising
 
@@ -136,7 +135,7 @@ pub is_table : (g : GridValue) (states : List ShardingValue) (numbers : List ℕ
     IsTable g.extents states numbers table
 is_table g states numbers es table on are costs same sorted =
     let each : All (λ e. IsStateTo on.target e.sharding) es = all_states (IsStateTo on.target) es (subst (All (IsStateTo on.target)) (sym are) on.each) in
-    let apart : IsDistinct alike es = entries_apart es (subst (λ ss. IsDistinct (pointwise same_splitting) (map splittings_of (keys_of ss))) (sym are) on.apart) in
+    let apart : IsDistinct alike es = entries_apart es (subst (λ ss. IsDistinct (pointwise nat_eq) (map code_of (keys_of ss))) (sym are) on.apart) in
     record {
       rising = rises g on.target table on.grid (All-permutation (λ (e : Distance). IsStateTo on.target e.sharding) es table same each) sorted
           (IsDistinct-IsPermutation alike flips es table same apart);

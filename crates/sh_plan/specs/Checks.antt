@@ -39,7 +39,8 @@ IsPlaceOf table ds found =
 -- ---- what is asked of moves
 
 -- a move, if it may be made, leads from an entry to an entry, and doesn't undercut the number
-pub record Covers (to : ShardingValue) (table : List Distance) (e : Distance) (m : Move) : Type 0 where
+pub record Covers (to : ShardingValue) (table : List Distance) (e : Distance) (m : Move)
+    : Type 0 where
   pub next : ℕ
   pub listed : IsListed table ((towards to).to e.sharding.dimensions m) next
   pub within : e.cost ≤ (towards to).cost e.sharding.dimensions m + next

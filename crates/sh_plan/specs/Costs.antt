@@ -52,6 +52,17 @@ reshards g ts = record {
   to = after ts;
 }
 
+-- how many indices lie in a device's part
+abbrev pub part_cells : List ℕ → ℕ → List Dimension → ℕ
+part_cells g device ds = cell_count (map (size_in g device) ds)
+
+-- how many cells the parts of all devices hold
+unfoldable pub held : List ℕ → List Dimension → ℕ
+held g ds = sum (map (λ device. part_cells g device ds) (range_with_len 0 (cell_count g)))
+
+abbrev pub held_by : ShardingValue → ℕ
+held_by s = held s.grid.extents s.dimensions
+
 -- ---- the same by lengths
 
 -- how many entries along a dimension lie in a device's part before and afterwards
@@ -71,10 +82,6 @@ common_cells g device [] [] = 1
 common_cells g device [] (e ∷ es) = 0
 common_cells g device (d ∷ ds) [] = 0
 common_cells g device (d ∷ ds) (e ∷ es) = common_length g device d e * common_cells g device ds es
-
--- how many indices lie in a device's part
-abbrev pub part_cells : List ℕ → ℕ → List Dimension → ℕ
-part_cells g device ds = cell_count (map (size_in g device) ds)
 
 -- what a device receives: what its part holds afterwards, less what of it was there before
 abbrev pub received_by_lengths : List ℕ → List Dimension → List Dimension → ℕ → ℕ

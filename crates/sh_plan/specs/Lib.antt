@@ -5,3 +5,4 @@ pub mod States
 pub mod Tables
 pub mod Found
 pub mod Checks
+pub mod Replication

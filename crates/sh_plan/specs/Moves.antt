@@ -1,8 +1,8 @@
 -- Moves between shardings without halos: where each may be made, and what it makes of them.
-use Rattle.std.specs.Prelude.{ℕ, ◌-◌, ◌<◌, ◌==◌, Bool, not, ◌&&◌, ◌||◌, List, [], ◌∷◌, ◌++◌, length, map, take, set, filter, get_or}
+use Rattle.std.specs.Prelude.{◌≡◌, ℕ, ◌-◌, ◌<◌, ◌==◌, Bool, true, not, ◌&&◌, ◌||◌, List, [], ◌∷◌, ◌++◌, length, map, take, set, filter, get_or}
 use Rattle.std.specs.List.{flat_map, list_any, range_with_len}
 use Rattle.sh_sharding.specs.declared.shardings.Dimension.{Dimension}
-use Rattle.sh_sharding.specs.Sharding.{ShardingValue, axes_of, is_even, is_split, is_uneven, unsplit}
+use Rattle.sh_sharding.specs.Sharding.{ShardingValue, axes_of, is_even, is_split, is_uneven, unsplit, whole_of}
 use Rattle.sh_plan.specs.declared.moves.Move.{Move}
 use Rattle.sh_plan.specs.declared.moves.Move.TheVariants.{M1, M2, M3, M4, M5}
 
@@ -109,3 +109,12 @@ IsNamedAt s m = IsNamed (length s.grid.extents) (length s.dimensions) m
 
 abbrev pub moved : ShardingValue → ShardingValue → Move → ShardingValue
 moved s to m = record s { dimensions = after to.dimensions s.dimensions m }
+
+-- a move that may be made on the way to some target leads from one state to the other
+pub record IsStep (s next : ShardingValue) (m : Move) : Type 0 where
+  pub to : ShardingValue
+  pub named : IsNamedAt s m
+  pub allowed : may_be s to m ≡ true
+  pub grid : next.grid ≡ s.grid
+  pub whole : whole_of next ≡ whole_of s
+  pub made : next.dimensions ≡ after to.dimensions s.dimensions m

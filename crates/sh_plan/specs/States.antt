@@ -1,7 +1,7 @@
 -- States by number: what a search among the shardings without halos of one shape on one grid keeps.
-use Rattle.std.specs.Prelude.{◌≡◌, ℕ, ◌≤◌, Bool, ◌&&◌, nat_eq, List, [], Some, All, length, map, slice_get}
+use Rattle.std.specs.Prelude.{◌≡◌, ℕ, ◌≤◌, nat_eq, List, [], ◌∷◌, ◌++◌, Some, All, length, map, slice_get}
 use Rattle.std.specs.Cmp.Lexicographic.{pointwise}
-use Rattle.std.specs.List.{AllZip, IsDistinct}
+use Rattle.std.specs.List.{AllZip, IsDistinct, flat_map}
 use Rattle.sh_sharding.specs.declared.shardings.Dimension.{Dimension}
 use Rattle.sh_sharding.specs.declared.shardings.Mark.{Mark}
 use Rattle.sh_sharding.specs.declared.shardings.Mark.TheVariants.{Balanced, Offsets}
@@ -11,7 +11,6 @@ use Rattle.sh_ways.specs.Graph.{Graph}
 use Rattle.sh_ways.specs.Rows.{AreOnce, IsEdgeOf, IsNumbering}
 use Rattle.sh_ways.specs.declared.search.Edge.{Edge}
 use Rattle.sh_plan.specs.declared.moves.Move.{Move}
-use Rattle.sh_plan.specs.declared.apart.Splitting.{Splitting}
 use Rattle.sh_plan.specs.declared.exploring.Explored.{Explored}
 use Rattle.sh_plan.specs.declared.exploring.States.{States}
 use Rattle.sh_plan.specs.Costs.{reshards}
@@ -33,14 +32,16 @@ abbrev pub written_offsets : Mark → List ℕ
 written_offsets Balanced = []
 written_offsets (Offsets offsets) = offsets
 
-abbrev pub splitting_of : Dimension → Splitting
-splitting_of d = record { axes = d.axes; offsets = written_offsets d.mark }
+-- numbers, and before them how many they are
+abbrev pub counted : List ℕ → List ℕ
+counted ns = length ns ∷ ns
 
-abbrev pub splittings_of : List Dimension → List Splitting
-splittings_of ds = map splitting_of ds
+-- what tells a dimension apart, and a state
+abbrev pub code_in : Dimension → List ℕ
+code_in d = counted d.axes ++ counted (written_offsets d.mark)
 
-abbrev pub same_splitting : Splitting → Splitting → Bool
-same_splitting a b = pointwise nat_eq a.axes b.axes && pointwise nat_eq a.offsets b.offsets
+abbrev pub code_of : List Dimension → List ℕ
+code_of ds = flat_map code_in ds
 
 -- ---- numbers
 
@@ -62,12 +63,12 @@ KeepNumbers old new = KeepsNumbers (keys_in old) (keys_in new)
 -- what tells the states apart stands at their numbers, and none is there twice
 pub record AreStates (to : ShardingValue) (states : States) : Type 0 where
   pub each : All (IsStateTo to) states.known.items
-  pub codes : states.codes.keys ≡ map splittings_of (keys_in states)
-  pub once : IsDistinct (pointwise same_splitting) states.codes.keys
+  pub codes : states.codes.keys ≡ map code_of (keys_in states)
+  pub once : IsDistinct (pointwise nat_eq) states.codes.keys
 
 -- no two states are the same by what tells them apart
 abbrev pub AreApart : List ShardingValue → Type 0
-AreApart states = IsDistinct (pointwise same_splitting) (map splittings_of (keys_of states))
+AreApart states = IsDistinct (pointwise nat_eq) (map code_of (keys_of states))
 
 -- the state with this number
 abbrev pub IsNumber : List (List Dimension) → List Dimension → ℕ → Type 0
@@ -78,8 +79,8 @@ abbrev pub AreEdges : ShardingValue → List (List Dimension) → List Dimension
     → List Move → Type 0
 AreEdges to keys ds row moves = AllZip (IsEdgeOf (towards to) keys ds) row moves
 
--- All states that moves reach from some of them: each has one number, and a row with an edge for each of
--- its moves.
+-- All states that moves reach from some of them: each has one number, and a row with an edge for
+-- each of its moves.
 pub record IsExplored (from to : ShardingValue) (all : Explored) : Type 0 where
   pub each : All (IsStateTo to) all.states.items
   pub source : IsNumber (keys_of all.states.items) from.dimensions all.start
@@ -89,6 +90,7 @@ pub record IsExplored (from to : ShardingValue) (all : Explored) : Type 0 where
   pub numbering : IsNumbering (towards to) (keys_of all.states.items) all.rows.items
 
 -- the edges of the state with a number
-abbrev pub IsRowOf : ShardingValue → List (List Dimension) → List (List Dimension) → ℕ → List (Edge Move) → Type 0
+abbrev pub IsRowOf : ShardingValue → List (List Dimension) → List (List Dimension) → ℕ
+    → List (Edge Move) → Type 0
 IsRowOf to old new at row =
     (ds : List Dimension) → IsNumber old ds at → AreEdges to new ds row ((towards to).moves ds)

@@ -37,5 +37,6 @@ pub record HasNumber (states : List ShardingValue) (numbers : List ℕ) (s : Sha
 pub record IsTable (g : List ℕ) (states : List ShardingValue) (numbers : List ℕ)
     (table : List Distance) : Type 0 where
   pub rising : IsRising g table
-  pub all : (s : ShardingValue) (n : ℕ) → HasNumber states numbers s n → IsListed table s.dimensions n
+  pub all : (s : ShardingValue) (n : ℕ) → HasNumber states numbers s n
+      → IsListed table s.dimensions n
   pub only : All (λ e. HasNumber states numbers e.sharding e.cost) table

@@ -28,7 +28,7 @@ fn is_uneven_along(s: &Sharding, dim: u64) -> bool
 }
 
 /// Whether a dimension is even, or not split.
-fn is_regular_along(s: &Sharding, dim: u64) -> bool
+pub(crate) fn is_regular_along(s: &Sharding, dim: u64) -> bool
     requires { dim < length s.now.dimensions }
     ensures { result ≡ is_even_or_unsplit s.now.grid.extents (dimension_of s.now dim) }
 {
@@ -120,8 +120,8 @@ fn may_go(s: &Sharding, from: u64, to: u64) -> bool
     from != to && is_even(s, from) && may_be_appended(s, to, last_axis_along(s, from))
 }
 
-/// Whether a move may be made at a sharding without halos, on the way to another of its shape on its
-/// grid. It takes no memory.
+/// Whether a move may be made at a sharding without halos, on the way to another of its shape on
+/// its grid. It takes no memory.
 #[tactic(auto, unfolding(crate::specs::Moves::may))]
 pub fn is_allowed(s: &Sharding, to: &Sharding, m: Move) -> bool
     requires grid { s.now.grid ≡ to.now.grid }

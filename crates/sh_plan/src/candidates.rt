@@ -103,8 +103,8 @@ fn allowed_of(alloc: Global, s: &Sharding, to: &Sharding, listed: &[Move]) -> Re
     Ok(moves)
 }
 
-/// The moves that may be made at a sharding without halos, on the way to another of its shape on its
-/// grid, in order: by variant, then by the first number, then by the second.
+/// The moves that may be made at a sharding without halos, on the way to another of its shape on
+/// its grid, in order: by variant, then by the first number, then by the second.
 ///
 /// Errors: `Mem` where memory is wanting.
 #[tactic(auto, unfolding(crate::specs::Moves::moves_at))]

@@ -44,8 +44,8 @@ fn are_flags(from: &Sharding, to: &Sharding, p: &Plan) -> bool
         && p.add_halos == differs_with_halos(from, to, to)
 }
 
-/// Whether a plan's table is a certificate for it: then its moves lead from source to target, and no
-/// list of moves costs less. It takes no memory.
+/// Whether a plan's table is a certificate for it: then its moves lead from source to target, and
+/// no list of moves costs less. It takes no memory.
 pub fn check_plan(g: &Grid, from: &Sharding, to: &Sharding, p: &Plan) -> bool
     requires source { from.now.grid ≡ g.now }
     requires target { to.now.grid ≡ g.now }

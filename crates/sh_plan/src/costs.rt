@@ -52,8 +52,8 @@ fn received_by(before: &Sharding, after: &Sharding, device: u64) -> u64
 }
 
 /// What a move costs that leads from one sharding to the other: 1, and for each device the number
-/// of indices in its part afterwards that weren't in its part before. Halos don't count. It takes no
-/// memory.
+/// of indices in its part afterwards that weren't in its part before. Halos don't count. It takes
+/// no memory.
 pub fn cost(before: &Sharding, after: &Sharding) -> u64
     requires grid { before.now.grid ≡ after.now.grid }
     requires whole { whole_of before.now ≡ whole_of after.now }

@@ -1,10 +1,12 @@
 ghost use Rattle.std.specs.Prelude.{◌≡◌, ◌<◌, All, IfOk, OnOk, length, true};
 ghost use Rattle.sh_ways.specs.Rows.{IsEdgeOf};
+ghost use Rattle.sh_plan.specs.Costs.{held_by};
 ghost use Rattle.sh_plan.specs.Moves.{IsNamedAt, may_be};
 ghost use Rattle.sh_plan.specs.States.{AreEdges, AreStates, IsExplored, IsNumber, IsRowOf, IsStateTo, KeepNumbers, keys_in, towards};
 
-use crate::apart::{Splitting, splittings};
-use crate::{Move, allowed_moves, cost, moved};
+use crate::apart::code;
+use crate::prices::{held, move_cost};
+use crate::{Move, allowed_moves, moved};
 use indexmap::IndexSet;
 use sh_base::{Duplicate, Items, Mem};
 use sh_sharding::Sharding;
@@ -15,7 +17,7 @@ use std::alloc::Global;
 #[derive(Drop)]
 pub struct States {
     /// What tells each apart.
-    pub codes: IndexSet<Items<Splitting>>,
+    pub codes: IndexSet<Items<u64>>,
     /// The states.
     pub known: Vec<Sharding>,
 }
@@ -28,7 +30,7 @@ fn number(alloc: Global, states: &mut States, to: &Sharding, s: Sharding) -> Res
     ensures keeps { OnOk result (KeepNumbers states.old states.new) }
     ensures named { IfOk result (IsNumber (keys_in states.new) s.dimensions) }
 {
-    let code = splittings(alloc, &s)?;
+    let code = code(alloc, &s)?;
     let (n, is_new) = states.codes.insert_full(code)?;
     if is_new {
         states.known.push(s)?;
@@ -36,25 +38,28 @@ fn number(alloc: Global, states: &mut States, to: &Sharding, s: Sharding) -> Res
     Ok(n)
 }
 
-/// The edge of a move.
+/// The edge of a move from a state, whose parts hold so many cells.
 fn edge_of(
     alloc: Global,
     states: &mut States,
     to: &Sharding,
     s: &Sharding,
+    cells: u64,
     m: Move,
 ) -> Result<Edge<Move>, Mem>
     requires states { AreStates to.now states.old }
     requires target { IsStateTo to.now to.now }
     requires state { IsStateTo to.now s.now }
+    requires cells { cells ≡ held_by s.now }
     requires named { IsNamedAt s.now m }
     requires may { may_be s.now to.now m ≡ true }
     ensures states { OnOk result (AreStates to.now states.new) }
     ensures keeps { OnOk result (KeepNumbers states.old states.new) }
-    ensures edge { IfOk result (λ e. IsEdgeOf (towards to.now) (keys_in states.new) s.now.dimensions e m) }
+    ensures edge { IfOk result
+        (λ e. IsEdgeOf (towards to.now) (keys_in states.new) s.now.dimensions e m) }
 {
     let next = moved(alloc, s, to, m)?;
-    let cost = cost(s, &next);
+    let cost = move_cost(s, &next, m, cells);
     let place = number(alloc, states, to, next)?;
     Ok(Edge {
         by: m,
@@ -63,26 +68,29 @@ fn edge_of(
     })
 }
 
-/// The edges of some moves of a state.
+/// The edges of some moves of a state, whose parts hold so many cells.
 fn edges_of(
     alloc: Global,
     states: &mut States,
     to: &Sharding,
     s: &Sharding,
+    cells: u64,
     moves: &[Move],
 ) -> Result<Vec<Edge<Move>>, Mem>
     requires states { AreStates to.now states.old }
     requires target { IsStateTo to.now to.now }
     requires state { IsStateTo to.now s.now }
+    requires cells { cells ≡ held_by s.now }
     requires named { All (IsNamedAt s.now) moves.now }
     requires may { All (λ m. may_be s.now to.now m ≡ true) moves.now }
     ensures states { OnOk result (AreStates to.now states.new) }
     ensures keeps { OnOk result (KeepNumbers states.old states.new) }
-    ensures edges { IfOk result (λ row. AreEdges to.now (keys_in states.new) s.now.dimensions row.items moves.now) }
+    ensures edges { IfOk result (λ row.
+        AreEdges to.now (keys_in states.new) s.now.dimensions row.items moves.now) }
 {
     let mut row = Vec::new(alloc);
     for m in moves {
-        let edge = edge_of(alloc, states, to, s, *m)?;
+        let edge = edge_of(alloc, states, to, s, cells, *m)?;
         row.push(edge)?;
     }
     Ok(row)
@@ -100,11 +108,12 @@ fn row_of(
     requires at { at < length states.old.known.items }
     ensures states { OnOk result (AreStates to.now states.new) }
     ensures keeps { OnOk result (KeepNumbers states.old states.new) }
-    ensures row { IfOk result (λ row. IsRowOf to.now (keys_in states.old) (keys_in states.new) at row.items) }
+    ensures row { IfOk result
+        (λ row. IsRowOf to.now (keys_in states.old) (keys_in states.new) at row.items) }
 {
     let s = states.known[at].duplicate(alloc)?;
     let moves = allowed_moves(alloc, &s, to)?;
-    edges_of(alloc, states, to, &s, moves.as_slice())
+    edges_of(alloc, states, to, &s, held(&s), moves.as_slice())
 }
 
 /// States and their edges, the source and the target among them.

@@ -3,11 +3,12 @@ ghost use Rattle.sh_sharding.specs.declared.shardings.Dimension.{Dimension};
 ghost use Rattle.sh_sharding.specs.Sharding.{ShardingValue};
 ghost use Rattle.sh_plan.specs.declared.plans.Plan.{Plan};
 ghost use Rattle.sh_plan.specs.Costs.{IsCostByLengths};
-ghost use Rattle.sh_plan.specs.Plans.{IsCertificate, IsLeast, IsPair, Reaches};
+ghost use Rattle.sh_plan.specs.Plans.{IsCertificate, IsLeast, IsPair, IsThePlan, Reaches};
+ghost use Rattle.sh_plan.specs.Replication.{OnlySplitsReplicated};
 
 /// What a device receives in a move, counted index by index, is the number of cells of its part
-/// afterwards, less the number of those that lay in its part before: products over the dimensions of
-/// the lengths of two intervals and of what they have in common.
+/// afterwards, less the number of those that lay in its part before: products over the dimensions
+/// of the lengths of two intervals and of what they have in common.
 pub fn cost_law()
     ensures { (g : List ℕ) (before after : List Dimension) → IsCostByLengths g before after }
 {}
@@ -17,9 +18,19 @@ pub fn certificate_law()
     ensures { (from to : ShardingValue) (p : Plan) → IsCertificate from to p → IsLeast from to p }
 {}
 
-/// From each sharding some moves lead to each other sharding of its shape on its grid: all dimensions
-/// are gathered, and then split as the target's. What they cost is below the greatest number of 64
-/// bits.
+/// From each sharding some moves lead to each other sharding of its shape on its grid: all
+/// dimensions are gathered, and then split as the target's. What they cost is below the greatest
+/// number of 64 bits.
 pub fn reach_law()
     ensures { (from to : ShardingValue) → IsPair from to → Reaches from to }
+{}
+
+/// From replication a plan only splits: its moves are `M2` and `M5`, each costs 1, and there are as
+/// many as the target needs, one for each uneven dimension and one for each axis of the others. So
+/// does any other list of moves that costs least.
+pub fn replication_law()
+    ensures plan { (from to : ShardingValue) (p : Plan) →
+        IsThePlan from to p → OnlySplitsReplicated from to p }
+    ensures least { (from to : ShardingValue) (p : Plan) →
+        IsLeast from to p → OnlySplitsReplicated from to p }
 {}

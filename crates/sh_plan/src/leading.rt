@@ -23,8 +23,8 @@ fn left_after(to: &Sharding, from: &Distance, next: &Distance, rest: u64) -> Opt
     rest.checked_sub(cost(&from.sharding, &next.sharding))
 }
 
-/// Where a move leads to from an entry, and what is left of a cost; none where the move can't be made or
-/// costs more.
+/// Where a move leads to from an entry, and what is left of a cost; none where the move can't be
+/// made or costs more.
 fn onward(
     g: &Grid,
     table: &[Distance],
@@ -108,8 +108,8 @@ pub(crate) fn place_of_plain(
     place_of(g, table, &views[..rank(s) as usize])
 }
 
-/// Whether a table, in which the places of source and target are known, shows that the moves of a plan
-/// lead there at its cost, and that no moves cost less.
+/// Whether a table, in which the places of source and target are known, shows that the moves of a
+/// plan lead there at its cost, and that no moves cost less.
 pub(crate) fn is_shown(
     g: &Grid,
     table: &[Distance],

@@ -16,6 +16,7 @@ mod named;
 mod places;
 mod planning;
 mod plans;
+mod prices;
 mod tables;
 mod viewing;
 
@@ -23,8 +24,9 @@ pub use allowed::is_allowed;
 pub use candidates::allowed_moves;
 pub use checks::check_plan;
 pub use costs::cost;
-pub use laws::{certificate_law, cost_law, reach_law};
+pub use laws::{certificate_law, cost_law, reach_law, replication_law};
 pub use moves::Move;
 pub use moving::moved;
+pub use named::is_named;
 pub use planning::plan;
 pub use plans::{Distance, Distances, Moves, Plan};

@@ -1,8 +1,8 @@
 /// A move from one sharding of a tensor to another, without halos.
 ///
-/// A dimension is even where it is split, has no offsets of its own, and its number of parts divides
-/// its extent; it is uneven where it is split and not even. The moves of a state are listed by
-/// variant, then by the first number, then by the second.
+/// A dimension is even where it is split, has no offsets of its own, and its number of parts
+/// divides its extent; it is uneven where it is split and not even. The moves of a state are listed
+/// by variant, then by the first number, then by the second.
 #[derive(Clone, Copy, Debug, PartialEq, Eq)]
 pub enum Move {
     /// Drops the last axis of an even dimension.

@@ -16,7 +16,7 @@ use std::alloc::Global;
 fn copied(alloc: Global, listed: &[Dimension]) -> Result<Vec<Dimension>, Mem>
     ensures { IfOk result (λ copy. copy.items ≡ listed.now) }
 {
-    let mut copy = Vec::new(alloc);
+    let mut copy = Vec::with_capacity(alloc, listed.len())?;
     for d in listed {
         let one = d.duplicate(alloc)?;
         copy.push(one)?;
@@ -33,6 +33,28 @@ fn with_other(alloc: Global, s: &Sharding, dim: u64, d: Dimension) -> Result<Sha
     let own = grid(s).duplicate(alloc)?;
     let mut made = copied(alloc, dimensions(s))?;
     made[dim as usize] = d;
+    Ok(from_dimensions(alloc, own, Items::from_vec(made)))
+}
+
+/// The sharding with other dimensions in place of two.
+fn with_others(
+    alloc: Global,
+    s: &Sharding,
+    dim: u64,
+    d: Dimension,
+    other: u64,
+    e: Dimension,
+) -> Result<Sharding, Mem>
+    requires dim { dim < length s.now.dimensions }
+    requires other { other < length s.now.dimensions }
+    requires sharding { IsSharding (with_dimension (with_dimension s.now dim d) other e) }
+    ensures { IfOk result
+        (λ made. made ≡ with_dimension (with_dimension s.now dim d) other e) }
+{
+    let own = grid(s).duplicate(alloc)?;
+    let mut made = copied(alloc, dimensions(s))?;
+    made[dim as usize] = d;
+    made[other as usize] = e;
     Ok(from_dimensions(alloc, own, Items::from_vec(made)))
 }
 
@@ -98,7 +120,8 @@ fn with_last_axis(alloc: Global, d: &Dimension, axis: u64) -> Dimension
 fn gathered(alloc: Global, s: &Sharding, dim: u64) -> Result<Sharding, Mem>
     requires dim { dim < length s.now.dimensions }
     requires state { IsState s.now }
-    ensures value { IfOk result (λ made. made ≡ with_dimension s.now dim (unsplit (dimension_of s.now dim).extent)) }
+    ensures value { IfOk result
+        (λ made. made ≡ with_dimension s.now dim (unsplit (dimension_of s.now dim).extent)) }
     ensures state { IfOk result (λ made. IsState made) }
 {
     let d = whole_dimension(alloc, dimension(s, dim).extent);
@@ -110,21 +133,24 @@ fn dropped(alloc: Global, s: &Sharding, dim: u64) -> Result<Sharding, Mem>
     requires dim { dim < length s.now.dimensions }
     requires state { IsState s.now }
     requires even { is_even s.now.grid.extents (dimension_of s.now dim) ≡ true }
-    ensures value { IfOk result (λ made. made ≡ with_dimension s.now dim (without_last (dimension_of s.now dim))) }
+    ensures value { IfOk result
+        (λ made. made ≡ with_dimension s.now dim (without_last (dimension_of s.now dim))) }
     ensures state { IfOk result (λ made. IsState made) }
 {
     let d = without_last_axis(alloc, dimension(s, dim));
     with_other(alloc, s, dim, d)
 }
 
-/// Appends an axis that splits no dimension to a dimension that is even or unsplit, and even afterwards.
+/// Appends an axis that splits no dimension to a dimension that is even or unsplit, and even
+/// afterwards.
 fn grown(alloc: Global, s: &Sharding, dim: u64, axis: u64) -> Result<Sharding, Mem>
     requires dim { dim < length s.now.dimensions }
     requires axis { axis < length s.now.grid.extents }
     requires state { IsState s.now }
     requires unused { is_listed axis (axes_of s.now.dimensions) ≡ false }
     requires may { may_append s.now.grid.extents s.now.dimensions dim axis ≡ true }
-    ensures value { IfOk result (λ made. made ≡ with_dimension s.now dim (with_axis (dimension_of s.now dim) axis)) }
+    ensures value { IfOk result
+        (λ made. made ≡ with_dimension s.now dim (with_axis (dimension_of s.now dim) axis)) }
     ensures state { IfOk result (λ made. IsState made) }
 {
     let d = with_last_axis(alloc, dimension(s, dim), axis);
@@ -138,12 +164,14 @@ fn gone_over(alloc: Global, s: &Sharding, from: u64, to: u64) -> Result<Sharding
     requires to { to < length s.now.dimensions }
     requires state { IsState s.now }
     requires may { may s.now.grid.extents [] s.now.dimensions (M3 from to) ≡ true }
-    ensures value { IfOk result (λ made. made ≡ record s.now { dimensions = after [] s.now.dimensions (M3 from to) }) }
+    ensures value { IfOk result (λ made. made
+        ≡ record s.now { dimensions = after [] s.now.dimensions (M3 from to) }) }
     ensures state { IfOk result (λ made. IsState made) }
 {
     let axis = last_axis_along(s, from);
-    let shorter = dropped(alloc, s, from)?;
-    grown(alloc, &shorter, to, axis)
+    let shorter = without_last_axis(alloc, dimension(s, from));
+    let longer = with_last_axis(alloc, dimension(s, to), axis);
+    with_others(alloc, s, from, shorter, to, longer)
 }
 
 /// Splits an unsplit dimension as another sharding does.
@@ -154,7 +182,8 @@ fn split_as(alloc: Global, s: &Sharding, to: &Sharding, dim: u64) -> Result<Shar
     requires grid { s.now.grid ≡ to.now.grid }
     requires whole { whole_of s.now ≡ whole_of to.now }
     requires may { may_be s.now to.now (M5 dim) ≡ true }
-    ensures value { IfOk result (λ made. made ≡ with_dimension s.now dim (dimension_of to.now dim)) }
+    ensures value { IfOk result
+        (λ made. made ≡ with_dimension s.now dim (dimension_of to.now dim)) }
     ensures state { IfOk result (λ made. IsState made) }
 {
     let d = dimension(to, dim).duplicate(alloc)?;

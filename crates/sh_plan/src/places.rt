@@ -11,8 +11,8 @@ use sh_grid::Grid;
 use sh_sharding::{DimensionView, Sharding, compare_views, views_of};
 use std::cmp::Ordering;
 
-/// The order of a sharding and one of which views tell, on a grid. One on a grid of other extents counts
-/// as of rank 0.
+/// The order of a sharding and one of which views tell, on a grid. One on a grid of other extents
+/// counts as of rank 0.
 fn order_before(g: &Grid, s: &Sharding, sought: &[DimensionView<'_>]) -> Ordering
     requires { All (IsOrdered g.now.extents) sought.now }
     ensures { result ≡ order_of g.now.extents (dimensions_on g.now.extents s.now)

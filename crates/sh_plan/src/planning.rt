@@ -101,9 +101,10 @@ pub(crate) fn differs_with_halos(from: &Sharding, to: &Sharding, s: &Sharding) -
     !same(from, to) && has_halos(s)
 }
 
-/// The plan that makes one sharding of a tensor into another of the same shape on the same grid. Its
-/// moves cost as little as moves can that lead there, each is the first that lies on a least way, and
-/// its table shows that. If the shardings are the same, there are no moves and no halos to change.
+/// The plan that makes one sharding of a tensor into another of the same shape on the same grid.
+/// Its moves cost as little as moves can that lead there, each is the first that lies on a least
+/// way, and its table shows that. If the shardings are the same, there are no moves and no halos to
+/// change.
 ///
 /// Errors: `Mem` where memory is wanting, and nothing else.
 pub fn plan(alloc: Global, g: &Grid, from: &Sharding, to: &Sharding) -> Result<Plan, Mem>

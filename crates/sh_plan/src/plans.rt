@@ -17,8 +17,8 @@ pub struct Distance {
 /// A table of distances to one target.
 pub type Distances = Items<Distance>;
 
-/// How one sharding of a tensor is made into another: halos are dropped first and added last, both at
-/// no cost, and between the two the moves lead from source to target.
+/// How one sharding of a tensor is made into another: halos are dropped first and added last, both
+/// at no cost, and between the two the moves lead from source to target.
 #[derive(Drop)]
 pub struct Plan {
     /// Whether the shardings differ and the source has halos.
@@ -29,7 +29,7 @@ pub struct Plan {
     pub add_halos: bool,
     /// What the moves cost together.
     pub cost: u64,
-    /// The distances to the target from states that no move leaves, in rising order of the states. It
-    /// shows that no list of moves costs less.
+    /// The distances to the target from states that no move leaves, in rising order of the states.
+    /// It shows that no list of moves costs less.
     pub table: Distances,
 }

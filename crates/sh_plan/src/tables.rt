@@ -22,7 +22,8 @@ pub(crate) fn rank_on(g: &Grid, s: &Sharding) -> usize
 
 /// The order of two shardings on a grid. One on a grid of other extents counts as of rank 0.
 fn order_on(g: &Grid, a: &Sharding, b: &Sharding) -> Ordering
-    ensures { result ≡ order_of g.now.extents (dimensions_on g.now.extents a.now) (dimensions_on g.now.extents b.now) }
+    ensures { result ≡ order_of g.now.extents (dimensions_on g.now.extents a.now)
+        (dimensions_on g.now.extents b.now) }
 {
     let left = views_of(a);
     let right = views_of(b);

@@ -60,8 +60,8 @@ fn with_view<'a>(
     all
 }
 
-/// What a move that may be made leads to, without making it: the views of the dimensions, the first of
-/// the array. It takes no memory.
+/// What a move that may be made leads to, without making it: the views of the dimensions, the first
+/// of the array. It takes no memory.
 #[tactic(auto, unfolding(crate::specs::Moves::may, crate::specs::Moves::after))]
 pub(crate) fn moved_views<'a>(
     s: &'a Sharding,

@@ -1,8 +1,8 @@
 ghost use Rattle.std.specs.Prelude.{◌≡◌, length};
 
+use crate::read_pair;
 use crate::shown::show_moves;
-use crate::{is_named, read_pair};
-use sh_plan::{Move, allowed_moves, is_allowed};
+use sh_plan::{Move, allowed_moves, is_allowed, is_named};
 use sh_sharding::Sharding;
 use std::alloc::Global;
 use std::process::Abort;

@@ -4,15 +4,17 @@
 #[cfg(test)]
 mod allowed;
 #[cfg(test)]
+mod certificates;
+#[cfg(test)]
 mod costs;
 #[cfg(test)]
 mod moved;
-mod named;
 mod pairs;
 #[cfg(test)]
 mod plans;
 #[cfg(test)]
 mod shown;
+#[cfg(test)]
+mod ways;
 
-pub use named::is_named;
-pub use pairs::{Pair, read_pair, read_shardings, read_state};
+pub use pairs::{Pair, read_pair, read_shardings, read_state, states};

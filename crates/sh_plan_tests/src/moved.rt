@@ -2,15 +2,15 @@ ghost use Rattle.std.specs.Prelude.{◌≡◌, length};
 ghost use Rattle.sh_sharding.specs.Made.{IsState};
 ghost use Rattle.sh_sharding.specs.Sharding.{whole_of};
 
-use crate::{is_named, read_pair, read_state};
-use sh_plan::{Move, is_allowed, moved};
+use crate::{read_pair, read_state};
+use sh_plan::{Move, is_allowed, is_named, moved};
 use sh_sharding::{Sharding, same};
 use std::alloc::Global;
 use std::process::Abort;
 use std::test::Fail;
 
 /// The sharding after a move that may be made.
-fn after(alloc: Global, from: &Sharding, to: &Sharding, m: Move) -> Result<Sharding, Fail>
+pub fn after(alloc: Global, from: &Sharding, to: &Sharding, m: Move) -> Result<Sharding, Fail>
     requires from { IsState from.now }
     requires to { IsState to.now }
     requires grid { from.now.grid ≡ to.now.grid }

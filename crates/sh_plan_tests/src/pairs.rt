@@ -14,20 +14,20 @@ pub struct Pair {
     pub to: Sharding,
 }
 
-fn share_grid(a: &Sharding, b: &Sharding) -> bool
+pub(crate) fn share_grid(a: &Sharding, b: &Sharding) -> bool
     ensures { IsTrue result ↔ (a.now.grid ≡ b.now.grid) }
 {
     grid(a).same(grid(b))
 }
 
-fn share_whole(a: &Sharding, b: &Sharding) -> bool
+pub(crate) fn share_whole(a: &Sharding, b: &Sharding) -> bool
     ensures { IsTrue result ↔ (whole_of a.now ≡ whole_of b.now) }
 {
     whole(a).same(whole(b))
 }
 
 /// Refuses shardings on two grids or of two shapes.
-fn match_up(from: &Sharding, to: &Sharding) -> Result<(), Unread>
+pub(crate) fn match_up(from: &Sharding, to: &Sharding) -> Result<(), Unread>
     ensures grid { OnOk result (from.now.grid ≡ to.now.grid) }
     ensures whole { OnOk result (whole_of from.now ≡ whole_of to.now) }
 {
@@ -40,15 +40,35 @@ fn match_up(from: &Sharding, to: &Sharding) -> Result<(), Unread>
     Ok(())
 }
 
-/// The sharding of an example that is admitted, without its halos.
+/// A sharding without its halos.
 #[tactic(auto, using(sh_sharding::proofs::MadeLaws::made_plain))]
+fn state(alloc: Global, s: &Sharding) -> Result<Sharding, Unread>
+    ensures { IfOk result (λ state. IsState state) }
+{
+    let _admitted = rank(s);
+    Ok(without_halos(alloc, s)?)
+}
+
+/// The sharding of an example that is admitted, without its halos.
 pub fn read_state(alloc: Global, line: &str) -> Result<Sharding, Unread>
     ensures { IfOk result (λ state. IsState state) }
 {
     let sharded = admit_example(alloc, line)?;
-    let _admitted = rank(&sharded.sharding);
-    let state = without_halos(alloc, &sharded.sharding)?;
-    Ok(state)
+    state(alloc, &sharded.sharding)
+}
+
+/// Two shardings on equal grids and of equal shapes, without their halos.
+pub fn states(alloc: Global, from: &Sharding, to: &Sharding) -> Result<Pair, Unread>
+    ensures from { IfOk result (λ pair. IsState pair.from) }
+    ensures to { IfOk result (λ pair. IsState pair.to) }
+    ensures grid { IfOk result (λ pair. pair.from.grid ≡ pair.to.grid) }
+    ensures whole { IfOk result (λ pair. whole_of pair.from ≡ whole_of pair.to) }
+    ensures rank { IfOk result (λ pair. length pair.from.dimensions ≡ length pair.to.dimensions) }
+{
+    let from = state(alloc, from)?;
+    let to = state(alloc, to)?;
+    match_up(&from, &to)?;
+    Ok(Pair { from, to })
 }
 
 /// The shardings of two examples that are admitted, on equal grids and of equal shapes.
@@ -70,8 +90,7 @@ pub fn read_pair(alloc: Global, from: &str, to: &str) -> Result<Pair, Unread>
     ensures whole { IfOk result (λ pair. whole_of pair.from ≡ whole_of pair.to) }
     ensures rank { IfOk result (λ pair. length pair.from.dimensions ≡ length pair.to.dimensions) }
 {
-    let from = read_state(alloc, from)?;
-    let to = read_state(alloc, to)?;
-    match_up(&from, &to)?;
-    Ok(Pair { from, to })
+    let from = admit_example(alloc, from)?.sharding;
+    let to = admit_example(alloc, to)?.sharding;
+    states(alloc, &from, &to)
 }

@@ -8,7 +8,7 @@ use std::test::Fail;
 
 /// Each line two examples of one shape on one grid, the moves of the plan from the one to the other, and
 /// what they cost together; then whether halos are dropped or added.
-const PLANS: &str = "\
+pub const PLANS: &str = "\
 2 | 4 4 | 0 | | ; 2 | 4 4 | - / 0 | | ; M3 0 1 : 9
 2 | 4 4 | - / 0 | | ; 2 | 4 4 | 0 | | ; M3 1 0 : 9
 2 | 4 4 | 0 | | ; 2 | 4 4 | 0 | | ; : 0
