@@ -52,8 +52,11 @@ cut_by : (most a r : ℕ) (b : Bool) → nat_le a most ≡ b → min most (min m
 cut_by most a r true e = cut_small most a r e
 cut_by most a r false e = cut_large most a r e
 
-cut_times : (most a r : ℕ) → min most (min most a * r) ≡ min most (a * r)
+pub cut_times : (most a r : ℕ) → min most (min most a * r) ≡ min most (a * r)
 cut_times most a r = cut_by most a r (nat_le a most) refl
+
+pub swapped : (x y : ℕ) → min x y ≡ min y x
+swapped x y = grind arith
 
 -- a product of cut numbers, cut again, stands for the product of the numbers
 pub cut_more : (most count n cut rest next whole : ℕ)
@@ -68,6 +71,3 @@ cut_more most count n cut rest next whole is so_far next_is =
     ∙ (cut_times most (count * min most n) rest
     ∙ (ap (λ x. min most x) b
     ∙ (cut_times most n (count * rest) ∙ (ap (λ x. min most x) d ∙ so_far))))
-  where
-    swapped : (x y : ℕ) → min x y ≡ min y x
-    swapped x y = grind arith

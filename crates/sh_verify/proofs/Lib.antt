@@ -1,4 +1,16 @@
 pub mod CellLaws
+pub mod CutLaws
+pub mod DistinctLaws
+pub mod JoinLaws
 pub mod LeastLaws
 pub mod LimitLaws
+pub mod LoopLaws
+pub mod NameLaws
+pub mod OpLaws
 pub mod OrderLaws
+pub mod ProductLaws
+pub mod RegionLaws
+pub mod RelationLaws
+pub mod RuleLaws
+pub mod TableLaws
+pub mod VerifiedLaws

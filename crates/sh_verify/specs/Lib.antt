@@ -1,2 +1,15 @@
+pub mod CutFaults
+pub mod Followings
+pub mod Joins
 pub mod Least
 pub mod LimitFaults
+pub mod Lists
+pub mod OpFaults
+pub mod OperandLists
+pub mod OwnValues
+pub mod RegionFaults
+pub mod Relations
+pub mod RuleFaults
+pub mod Tables
+pub mod Verified
+pub mod VerifyRefusals

@@ -19,7 +19,7 @@ use sh_ir::{Arg, CallItem, Constant, Cut, Func, GridItem, Module};
 // ---- grids
 
 /// A written number, as one that isn't negative and is cut where it is greater than the most devices.
-fn device_extent(extent: &i128) -> u64
+pub(crate) fn device_extent(extent: &i128) -> u64
     ensures { result ≡ min (max_devices + 1) (as_natural extent.now) }
 {
     let written = *extent;

@@ -1,9 +1,9 @@
 -- Modules that keep all rules, and beside each some that break one in a grid, a function or a call item.
-use Rattle.std.specs.Prelude.{◌≡◌, ℕ, pos, List, [], ◌∷◌, ◌++◌, Some, None, false, map, replicate, codes}
+use Rattle.std.specs.Prelude.{◌≡◌, ℕ, pos, List, [], ◌∷◌, ◌++◌, Some, None, true, false, map, replicate, codes}
 use Rattle.sh_base.specs.declared.numbers.Width.TheVariants.{I32}
 use Rattle.sh_base.specs.declared.numbers.Cell.TheVariants.{Val}
 use Rattle.sh_base.specs.declared.rules.Rule.{Rule}
-use Rattle.sh_base.specs.declared.rules.Rule.TheVariants.{L2, L3, L4, L5, V1, V2, V3, V5, V6, V7, V10}
+use Rattle.sh_base.specs.declared.rules.Rule.TheVariants.{L2, L3, L4, L5, L7, V1, V2, V3, V5, V6, V7, V10}
 use Rattle.sh_ir.specs.declared.arith_ops.Contents.{Contents}
 use Rattle.sh_ir.specs.declared.arith_ops.Contents.TheVariants.{Held, Broken}
 use Rattle.sh_ir.specs.declared.functions.Cut.{Cut}
@@ -15,7 +15,7 @@ use Rattle.sh_ir.specs.declared.operations.OpKind.TheVariants as op_kind
 use Rattle.sh_ir.specs.declared.types.Dim.TheVariants.{Known}
 use Rattle.sh_ir.specs.declared.types.ValueType.{ValueType}
 use Rattle.sh_ir.specs.declared.types.ValueType.TheVariants as value_type
-use Rattle.sh_ir.specs.Faults.{limit_faults, rule_faults}
+use Rattle.sh_ir.specs.Faults.{keeps_func, limit_faults, rule_faults}
 use Rattle.sh_ir.specs.Limits.{operations_in, instructions_in}
 use Rattle.sh_ir.specs.Parts.{op_of}
 use Rattle.sh_verify_tests.specs.Samples.{halves, here, matrix, note, op, open_vector, reduce, scalar, summing, tensor, the_grid, vector}
@@ -160,7 +160,15 @@ pub record CountsRight : Type 0 where
 abbrev pub long_func : ℕ → Func
 long_func n = returning (replicate n (op op_kind.Empty [] four))
 
--- 10,000 operations with the return are few enough, and one more isn't
+abbrev pub long_device_func : ℕ → Func
+long_device_func n = record (long_func n) { carry = device_func.carry }
+
+-- 10,000 operations with the return are few enough in source form, 100,000 without it in device form,
+-- and one more isn't; each form has the limit of its own
 pub record LengthsRight : Type 0 where
   pub few : broken_limits (one_func (long_func 9999)) ≡ []
   pub many : broken_limits (one_func (long_func 10000)) ≡ L5 ∷ []
+  pub others : broken_limits (one_func (long_device_func 10000)) ≡ []
+  pub device : instructions_in (long_device_func 100000) ≡ 100000
+  pub most : keeps_func L7 (one_func device_func) [] (long_device_func 100000) ≡ true
+  pub more : keeps_func L7 (one_func device_func) [] (long_device_func 100001) ≡ false

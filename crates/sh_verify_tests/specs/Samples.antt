@@ -1,5 +1,6 @@
 -- Operations that keep all rules, and beside each some that break one.
-use Rattle.std.specs.Prelude.{◌≡◌, ℕ, ℤ, pos, negsuc, List, [], ◌∷◌, Some, None, ◌++◌, true, false, length, map, codes}
+use Rattle.std.specs.Prelude.{◌≡◌, ℕ, ◌+◌, ℤ, pos, negsuc, List, [], ◌∷◌, Some, None, ◌++◌, true, false, length, map, replicate, codes}
+use Rattle.std.specs.List.{range_with_len}
 use Rattle.sh_base.specs.declared.numbers.Width.{Width}
 use Rattle.sh_base.specs.declared.numbers.Width.TheVariants.{I1, I8, I32}
 use Rattle.sh_base.specs.declared.numbers.Cell.TheVariants.{Val}
@@ -10,7 +11,7 @@ use Rattle.sh_base.specs.declared.operations.Kind.TheVariants as kind
 use Rattle.sh_base.specs.declared.operations.Predicate.TheVariants.{Slt}
 use Rattle.sh_base.specs.declared.places.Place.{Place}
 use Rattle.sh_base.specs.declared.rules.Rule.{Rule}
-use Rattle.sh_base.specs.declared.rules.Rule.TheVariants.{L2, L4, V1, V2, V3, V4, V5, V6, V8, V9, V10}
+use Rattle.sh_base.specs.declared.rules.Rule.TheVariants.{L2, L4, L6, V1, V2, V3, V4, V5, V6, V8, V9, V10}
 use Rattle.sh_ir.specs.declared.arith_ops.Contents.{Contents}
 use Rattle.sh_ir.specs.declared.arith_ops.Contents.TheVariants.{Held, Broken}
 use Rattle.sh_ir.specs.declared.bodies.Body.{Body}
@@ -51,6 +52,9 @@ vector n w = tensor (Known n ∷ []) w
 
 abbrev pub matrix : ℕ → ℕ → Width → ValueType
 matrix m n w = tensor (Known m ∷ Known n ∷ []) w
+
+abbrev pub cube : ℕ → ℕ → ℕ → Width → ValueType
+cube l m n w = tensor (Known l ∷ Known m ∷ Known n ∷ []) w
 
 -- an extent that differs
 abbrev pub open_vector : Width → ValueType
@@ -94,7 +98,8 @@ the_values =
     value 0 (vector 4 I32) ∷ value 1 (matrix 2 4 I32) ∷ constant_value 2 (scalar I32) ∷ value 3 (vector 4 I8)
     ∷ value 4 (vector 4 I1) ∷ value 5 value_type.Sharding ∷ value 6 (open_vector I32) ∷ value 7 (matrix 2 3 I32)
     ∷ value 8 (matrix 3 4 I8) ∷ value 9 (vector 2 I32) ∷ value 10 (tensor [] I32) ∷ value 11 (vector 3 I32)
-    ∷ value 12 (vector 6 I32) ∷ value 13 (matrix 4 2 I32) ∷ value 14 (vector 0 I32) ∷ []
+    ∷ value 12 (vector 6 I32) ∷ value 13 (matrix 4 2 I32) ∷ value 14 (vector 0 I32) ∷ value 15 (cube 1 2 3 I32)
+    ∷ value 16 (cube 1 3 4 I8) ∷ value 17 (cube 1 2 4 I32) ∷ value 18 (matrix 2 2 I32) ∷ []
 
 abbrev pub in_source : Scope
 in_source = record { grids = the_grid ∷ []; funcs = half ∷ local ∷ []; device = None; values = the_values }
@@ -272,6 +277,14 @@ structured_samples =
     ∷ sound (op_kind.Conv1d (ins_outs (vector 6 I32 ∷ vector 3 I32 ∷ []) (vector 4 I32))) (12 ∷ 11 ∷ 0 ∷ []) (vector 4 I32)
     ∷ breaking v3 (op_kind.Conv1d (ins_outs (vector 6 I32 ∷ vector 4 I32 ∷ []) (vector 4 I32))) (12 ∷ 0 ∷ 0 ∷ []) (vector 4 I32)
     ∷ sound (op_kind.Conv1d (ins_outs (vector 6 I32 ∷ vector 3 I32 ∷ []) (vector 0 I32))) (12 ∷ 11 ∷ 14 ∷ []) (vector 0 I32)
+    ∷ sound (op_kind.BatchMatmul (ins_outs (cube 1 2 3 I32 ∷ cube 1 3 4 I8 ∷ []) (cube 1 2 4 I32))) (15 ∷ 16 ∷ 17 ∷ []) (cube 1 2 4 I32)
+    ∷ breaking v3 (op_kind.BatchMatmul (ins_outs (cube 1 2 3 I32 ∷ cube 1 2 3 I32 ∷ []) (cube 1 2 4 I32))) (15 ∷ 15 ∷ 17 ∷ []) (cube 1 2 4 I32)
+    ∷ breaking v3 (op_kind.BatchMatmul (ins_outs (cube 1 2 3 I32 ∷ matrix 3 4 I8 ∷ []) (cube 1 2 4 I32))) (15 ∷ 8 ∷ 17 ∷ []) (cube 1 2 4 I32)
+    ∷ breaking v4 (op_kind.BatchMatmul (ins_outs (cube 1 2 3 I32 ∷ cube 1 3 4 I8 ∷ []) (cube 1 2 4 I32))) (15 ∷ 16 ∷ 17 ∷ []) (cube 2 2 4 I32)
+    ∷ sound (op_kind.Conv2d (ins_outs (matrix 3 4 I8 ∷ matrix 2 3 I32 ∷ []) (matrix 2 2 I32))) (8 ∷ 7 ∷ 18 ∷ []) (matrix 2 2 I32)
+    ∷ breaking v3 (op_kind.Conv2d (ins_outs (matrix 3 4 I8 ∷ matrix 2 4 I32 ∷ []) (matrix 2 2 I32))) (8 ∷ 1 ∷ 18 ∷ []) (matrix 2 2 I32)
+    ∷ breaking v3 (op_kind.Conv2d (ins_outs (matrix 3 4 I8 ∷ vector 3 I32 ∷ []) (matrix 2 2 I32))) (8 ∷ 11 ∷ 18 ∷ []) (matrix 2 2 I32)
+    ∷ breaking v4 (op_kind.Conv2d (ins_outs (matrix 3 4 I8 ∷ matrix 2 3 I32 ∷ []) (matrix 2 2 I32))) (8 ∷ 7 ∷ 18 ∷ []) (matrix 2 4 I32)
     ∷ sound (op_kind.Transpose (record { ins_outs = ins_outs (matrix 2 4 I32 ∷ []) (matrix 4 2 I32); permutation = nums 1 0 })) (1 ∷ 13 ∷ []) (matrix 4 2 I32)
     ∷ breaking v5 (op_kind.Transpose (record { ins_outs = ins_outs (matrix 2 4 I32 ∷ []) (matrix 4 2 I32); permutation = nums 1 1 })) (1 ∷ 13 ∷ []) (matrix 4 2 I32)
     ∷ breaking v3 (op_kind.Transpose (record { ins_outs = ins_outs (matrix 2 4 I32 ∷ []) (matrix 4 2 I32); permutation = nums 0 1 })) (1 ∷ 13 ∷ []) (matrix 4 2 I32)
@@ -353,6 +366,49 @@ region_samples =
     ∷ breaking v8 (generic (map_of (0 ∷ 1 ∷ []) (1 ∷ 1 ∷ []) ∷ map_of (0 ∷ 1 ∷ []) (1 ∷ []) ∷ []) over_rows summing) (1 ∷ 0 ∷ []) (vector 4 I32)
     ∷ breaking v8 (generic (map_of (0 ∷ 1 ∷ 2 ∷ []) (0 ∷ 1 ∷ []) ∷ map_of (0 ∷ 1 ∷ 2 ∷ []) (1 ∷ []) ∷ []) (Reduction ∷ Parallel ∷ Reduction ∷ []) summing) (1 ∷ 0 ∷ []) (vector 4 I32)
     ∷ breaking v4 (generic columns over_rows summing) (1 ∷ 0 ∷ []) (vector 2 I32)
+    ∷ []
+
+-- ---- how many inputs
+
+abbrev pub identity : AffineMap
+identity = map_of (0 ∷ []) (0 ∷ [])
+
+-- a generic of so many vectors of four cells, which gives the first one
+abbrev pub first_of : ℕ → OpKind
+first_of n =
+    op_kind.Generic (record {
+      ins_outs = ins_outs (replicate n (vector 4 I32)) (vector 4 I32);
+      indexing_maps = replicate (n + 1) identity;
+      iterator_types = Parallel ∷ [];
+      body = region (range_with_len 30 (n + 1)) (replicate (n + 1) I32) [] 30;
+    })
+
+abbrev pub of_inputs : ℕ → List Rule → Sample
+of_inputs n rules = breaking rules (first_of n) (replicate (n + 1) 0) (vector 4 I32)
+
+abbrev pub source_counts : List Sample
+source_counts = of_inputs 3 [] ∷ of_inputs 4 (L6 ∷ []) ∷ []
+
+abbrev pub device_counts : List Sample
+device_counts = of_inputs 4 [] ∷ of_inputs 9 [] ∷ of_inputs 10 (L6 ∷ []) ∷ []
+
+-- ---- returns
+
+abbrev pub returned : List Rule → List ℕ → List ValueType → Sample
+returned rules used types = record {
+  op = op_of (op_kind.Return (record { operand_types = types })) used None value_type.Nothing here;
+  breaks = rules;
+}
+
+abbrev pub return_samples : List Sample
+return_samples =
+    returned [] [] []
+    ∷ returned [] (0 ∷ []) (vector 4 I32 ∷ [])
+    ∷ returned [] (2 ∷ 0 ∷ []) (scalar I32 ∷ vector 4 I32 ∷ [])
+    ∷ returned v1 (19 ∷ []) (vector 4 I32 ∷ [])
+    ∷ returned v3 (0 ∷ []) (vector 2 I32 ∷ [])
+    ∷ returned v3 (0 ∷ 0 ∷ []) (vector 4 I32 ∷ [])
+    ∷ returned v3 (0 ∷ []) (vector 4 I32 ∷ vector 4 I32 ∷ [])
     ∷ []
 
 -- ---- annotations, calls

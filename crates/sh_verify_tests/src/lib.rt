@@ -4,5 +4,9 @@
 #[cfg(test)]
 mod grids;
 mod samples;
+#[cfg(test)]
+mod verifying;
 
-pub use samples::{cuts_give_local_types, modules_break_rules, operations_break_rules};
+pub use samples::{
+    cuts_give_local_types, modules_break_rules, network_keeps_limits, operations_break_rules,
+};

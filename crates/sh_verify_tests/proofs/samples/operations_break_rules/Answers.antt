@@ -18,3 +18,12 @@ returns-clause-sources c = all_right.sources
 
 pub returns-clause-devices : goal.returns-clause-devices
 returns-clause-devices c = all_right.devices
+
+pub returns-clause-source_counts : goal.returns-clause-source_counts
+returns-clause-source_counts c = all_right.source_counts
+
+pub returns-clause-device_counts : goal.returns-clause-device_counts
+returns-clause-device_counts c = all_right.device_counts
+
+pub returns-clause-returns : goal.returns-clause-returns
+returns-clause-returns c = all_right.returns

@@ -1,0 +1,7 @@
+use Rattle.std.proofs.Common.{◌≡◌, drop}
+use Rattle.sh_ir.specs.Regions.{is_among}
+use Rattle.sh_verify.proofs.maps.contains.Given as goal
+
+-- the names to come decide
+abbrev pub invariant-loop-other : goal.invariant-loop-other
+invariant-loop-other l = is_among (drop l.other-index l.names) l.name ≡ is_among l.names l.name

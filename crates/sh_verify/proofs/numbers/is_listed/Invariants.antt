@@ -1,0 +1,9 @@
+use Rattle.std.proofs.Common.{◌≡◌, drop}
+use Rattle.sh_ir.specs.Numbers.{as_naturals}
+use Rattle.sh_ir.specs.Regions.{is_among}
+use Rattle.sh_verify.proofs.numbers.is_listed.Given as goal
+
+-- the numbers to come decide
+abbrev pub invariant-loop-other : goal.invariant-loop-other
+invariant-loop-other l =
+    is_among (as_naturals (drop l.other-index l.written)) l.number ≡ is_among (as_naturals l.written) l.number
