@@ -1,0 +1,5 @@
+pub mod Cells
+pub mod Formulas
+pub mod Folds
+pub mod Nests
+pub mod Sizes
