@@ -1,0 +1,8 @@
+use Rattle.std.proofs.Common.{◌≡◌, flat_map, take}
+use Rattle.sh_print.specs.Layout.{written}
+use Rattle.sh_print.specs.Tokens as tokens
+use Rattle.sh_print.proofs.items.calls.Given as goal
+
+abbrev pub invariant-loop-it : goal.invariant-loop-it
+invariant-loop-it l =
+    l.printer ≡ written l.initial.printer (flat_map tokens.call_pieces (take l.it-index l.calls))

@@ -1,0 +1,6 @@
+pub mod Layout
+pub mod Words
+pub mod Values
+pub mod Spellings
+pub mod Tokens
+pub mod Examples
