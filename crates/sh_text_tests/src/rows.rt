@@ -1,0 +1,82 @@
+use crate::{Unsound, judge};
+use sh_base::{Place, Refusal};
+use std::alloc::Global;
+use std::process::Abort;
+use std::test::Fail;
+
+const LONGEST: usize = 16_777_216;
+
+/// The text around an operation: a function without results is open before it, and ends behind it.
+pub const END: &str = "return } }";
+
+/// `sound`, or the code and the place of the first fault.
+pub fn answer(rt: &impl Abort, alloc: Global, text: &str) -> Result<String, Fail> {
+    assert!(rt; text.len() <= LONGEST);
+    match judge(alloc, text.as_bytes()) {
+        Ok(_) => Ok(String::from_str(alloc, "sound")?),
+        Err(Unsound::Mem) => Ok(String::from_str(alloc, "memory")?),
+        Err(Unsound::At(Refusal { place, rule })) => {
+            let Place { line, column } = place;
+            let rule = rule.code();
+            Ok(format!(in alloc; "{rule} {line}:{column}")?)
+        }
+    }
+}
+
+fn assert_row(
+    rt: &impl Abort,
+    alloc: Global,
+    head: &str,
+    row: &str,
+    tail: &str,
+) -> Result<(), Fail> {
+    let (part, want) = row.split_once(" | ").ok_or("no bar")?;
+    let text = format!(in alloc; "{head}\n{part}\n{tail}\n")?;
+    let found = answer(rt, alloc, text.as_str())?;
+    assert_eq!(rt; found.as_str(), want, "{row}");
+    Ok(())
+}
+
+/// Each row is a part of a text, on lines of its own between the head and the tail; then what is said
+/// of the text.
+pub fn assert_rows(
+    rt: &impl Abort,
+    alloc: Global,
+    head: &str,
+    rows: &str,
+    tail: &str,
+) -> Result<(), Fail> {
+    for row in rows.lines() {
+        assert_row(rt, alloc, head, row, tail)?;
+    }
+    Ok(())
+}
+
+fn assert_named(
+    rt: &impl Abort,
+    alloc: Global,
+    name: &str,
+    head: &str,
+    rows: &str,
+) -> Result<(), Fail> {
+    for row in rows.lines() {
+        let (before, behind) = row.split_once("NAME").ok_or("no name")?;
+        let named = format!(in alloc; "{before}{name}{behind}")?;
+        assert_row(rt, alloc, head, named.as_str(), END)?;
+    }
+    Ok(())
+}
+
+/// The same for each of the names, which stands for `NAME` in the rows; the tail is [`END`].
+pub fn assert_each(
+    rt: &impl Abort,
+    alloc: Global,
+    names: &str,
+    head: &str,
+    rows: &str,
+) -> Result<(), Fail> {
+    for name in names.split_whitespace() {
+        assert_named(rt, alloc, name, head, rows)?;
+    }
+    Ok(())
+}
