@@ -1,5 +1,5 @@
 -- What is asked of the numbers that an operation writes.
-use Rattle.std.specs.Prelude.{ℕ, ◌+◌, ◌*◌, ◌-◌, List, ◌∷◌, Bool, true, not, ◌&&◌, ◌||◌, nat_eq, nat_lt, nat_le, ℤ, length, flat_map, filter}
+use Rattle.std.specs.Prelude.{ℕ, ◌+◌, ◌*◌, ◌-◌, List, [], ◌∷◌, Bool, true, not, ◌&&◌, ◌||◌, nat_eq, nat_lt, nat_le, ℤ, length, flat_map, filter}
 use Rattle.std.specs.List.{list_all}
 use Rattle.std.specs.Option.{option_map_or}
 use Rattle.sh_ir.specs.declared.operations.OpKind.{OpKind}
@@ -16,7 +16,7 @@ use Rattle.sh_ir.specs.Agreement.{dims_of, rank_of}
 use Rattle.sh_ir.specs.Formed.{is_not_negative}
 use Rattle.sh_ir.specs.Literals.{is_broken}
 use Rattle.sh_ir.specs.Loops.{input_rank, output_rank}
-use Rattle.sh_ir.specs.Numbers.{as_naturals, are_axes_below, is_permutation, are_naturals, are_positive, are_groups_of}
+use Rattle.sh_ir.specs.Numbers.{as_natural, as_naturals, are_axes_below, is_permutation, are_naturals, are_positive, are_groups_of}
 use Rattle.sh_ir.specs.Regions.{is_among}
 use Rattle.sh_ir.specs.Scope.{Scope, grid_item, group_size}
 use Rattle.sh_ir.specs.Written.{first_type}
@@ -33,6 +33,17 @@ abbrev pub in_extents : List ℕ → List ℕ → List ℕ → List Dim → Bool
 in_extents (o ∷ offsets) (s ∷ sizes) (t ∷ strides) (d ∷ dims) =
     in_extent o s t d && in_extents offsets sizes strides dims
 in_extents _ _ _ _ = true
+
+-- how far a slice of one dimension reaches: its size; `?` where the extent is `?`, since the
+-- dimension is then taken whole
+abbrev pub sliced_dim : ℤ → Dim → Dim
+sliced_dim size (Known n) = Known (as_natural size)
+sliced_dim size Differs = Differs
+
+abbrev pub sliced_dims : List ℤ → List Dim → List Dim
+sliced_dims [] dims = []
+sliced_dims (size ∷ sizes) [] = []
+sliced_dims (size ∷ sizes) (d ∷ dims) = sliced_dim size d ∷ sliced_dims sizes dims
 
 -- a number of each list for each dimension, offsets from 0 on, sizes and strides from 1 on, and all
 -- cells in range where the extent is known

@@ -17,7 +17,7 @@ use Rattle.sh_ir.specs.declared.classification.OpClass.TheVariants as class
 use Rattle.sh_ir.specs.Loops.{generic_of}
 use Rattle.sh_ir.specs.Written.{written_by}
 
--- ---- the numbers; those of ranks, cells and grids stand below
+-- ---- the numbers; those of ranks, cells and grids stand in `sh_base`
 
 -- the greatest number of loops of an operation
 abbrev pub max_loops : ℕ

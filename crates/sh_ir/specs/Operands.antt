@@ -12,11 +12,10 @@ use Rattle.sh_ir.specs.declared.types.Dim.{Dim}
 use Rattle.sh_ir.specs.declared.types.Dim.TheVariants.{Known, Differs}
 use Rattle.sh_ir.specs.declared.types.ValueType.{ValueType}
 use Rattle.sh_ir.specs.Agreement.{same_rank_and_bits, is_tensor, dims_of, rank_of, cell_bits, same_bits, differs, shapes_agree, types_agree}
-use Rattle.sh_ir.specs.Attributes.{numbers_fit, has_dim}
+use Rattle.sh_ir.specs.Attributes.{numbers_fit, has_dim, sliced_dims}
 use Rattle.sh_ir.specs.Formed.{is_scalar}
 use Rattle.sh_ir.specs.Loops.{LoopMap, Structure, identity_map, input_rank, output_rank, matmul_structure, batch_matmul_structure, matvec_structure, vecmat_structure, dot_structure, conv_1d_structure, conv_2d_structure, transpose_structure, broadcast_structure, reduce_structure}
 use Rattle.sh_ir.specs.Literals.{is_zero}
-use Rattle.sh_ir.specs.Numbers.{known_dims}
 use Rattle.sh_ir.specs.Scope.{Scope, func_item}
 use Rattle.sh_ir.specs.Shapes.{argument_types, extent_of}
 use Rattle.sh_ir.specs.Typing.{operand_types}
@@ -106,7 +105,7 @@ is_test_of condition t =
 unfoldable pub is_part_of : declared_insert_slice.InsertSlice → Bool → ValueType → Bool
 is_part_of x in_order t =
     same_rank_and_bits x.source_type t
-    && (not in_order || shapes_agree (dims_of x.source_type) (known_dims x.slice.sizes))
+    && (not in_order || shapes_agree (sliced_dims x.slice.sizes (dims_of t)) (dims_of x.source_type))
 
 -- the dimensions of the operands of a join, each followed by its number, but for that of the axis
 abbrev pub beside : ℕ → List ValueType → List Following

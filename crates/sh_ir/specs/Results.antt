@@ -15,7 +15,7 @@ use Rattle.sh_ir.specs.declared.types.Dim.{Dim}
 use Rattle.sh_ir.specs.declared.types.Dim.TheVariants.{Known, Differs}
 use Rattle.sh_ir.specs.declared.types.ValueType.{ValueType}
 use Rattle.sh_ir.specs.Agreement.{same_rank_and_bits, dims_of, cell_bits, same_bits, differs, dims_agree, shapes_agree, types_agree, all_related}
-use Rattle.sh_ir.specs.Attributes.{numbers_fit, has_dim, pieces_fit}
+use Rattle.sh_ir.specs.Attributes.{numbers_fit, has_dim, pieces_fit, sliced_dims}
 use Rattle.sh_ir.specs.Numbers.{known_dims, as_naturals}
 use Rattle.sh_ir.specs.Operands.{loop_dim, beside}
 use Rattle.sh_ir.specs.Scope.{Scope, func_item, group_size}
@@ -42,7 +42,7 @@ is_cast op t u = changes_bits op (cell_bits t) (cell_bits u) && shapes_agree (di
 unfoldable pub is_slice : Bool → declared_extract_slice.ExtractSlice → ValueType → Bool
 is_slice in_order x result =
     same_rank_and_bits x.source_type result
-    && (not in_order || shapes_agree (known_dims x.slice.sizes) (dims_of result))
+    && (not in_order || shapes_agree (sliced_dims x.slice.sizes (dims_of x.source_type)) (dims_of result))
 
 -- the number of cells of these dimensions; `?` where one isn't known
 abbrev pub product_dim : List Dim → Dim

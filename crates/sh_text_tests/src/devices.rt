@@ -181,7 +181,9 @@ const SOURCE: &str = "\
 %r = call @l(%m) : (tensor<4x6xi32>) -> tensor<4x6xi32> | V10 2:1
 %r = tensor.collapse_shape %u [[0]] : tensor<?xi32> into tensor<7xi32> | sound
 %r = tensor.extract_slice %u [9] [2] [1] : tensor<?xi32> to tensor<2xi32> | sound
-%r = tensor.extract_slice %u [9] [2] [1] : tensor<?xi32> to tensor<3xi32> | V4 2:1
+%r = tensor.extract_slice %u [9] [2] [1] : tensor<?xi32> to tensor<3xi32> | sound
+%r = tensor.extract_slice %u [9] [2] [1] : tensor<?xi32> to tensor<3xi8> | V4 2:1
+%r = tensor.extract_slice %m [0, 0] [2, 3] [1, 1] : tensor<4x6xi32> to tensor<?x4xi32> | V4 2:1
 %r = linalg.dot ins(%u, %u : tensor<?xi32>, tensor<?xi32>) outs(%u : tensor<?xi32>) -> tensor<?xi32> | V3 2:1
 %r = arith.constant dense<1> : tensor<?xi32> | sound
 %r = arith.constant dense<> : tensor<0x?xi32> | sound
@@ -194,6 +196,9 @@ const SOURCE: &str = "\
 %e = tensor.empty() : tensor<9xi32> %r = arith.addi %u, %e : tensor<?xi32> | V3 2:37
 %r = tensor.insert_slice %u into %m [0, 0] [2, 1] [1, 1] : tensor<?xi32> into tensor<4x6xi32> | V3 2:1
 %r = tensor.insert_slice %u into %u [0] [2] [1] : tensor<?xi32> into tensor<?xi32> | sound
+%e = tensor.empty() : tensor<9xi32> %r = tensor.insert_slice %e into %u [0] [2] [1] : tensor<9xi32> into tensor<?xi32> | sound
+%e = tensor.empty() : tensor<9xi32> %r = tensor.insert_slice %u into %e [0] [2] [1] : tensor<?xi32> into tensor<9xi32> | sound
+%e = tensor.empty() : tensor<9xi32> %r = tensor.insert_slice %e into %e [0] [2] [1] : tensor<9xi32> into tensor<9xi32> | V3 2:37
 %r = tensor.expand_shape %u [[0, 1]] output_shape [2, 4] : tensor<?xi32> into tensor<2x4xi32> | sound
 %r = linalg.fill ins(%s : i32) outs(%u : tensor<?xi32>) -> tensor<?xi32> | sound
 %r = linalg.fill ins(%s : i32) outs(%u : tensor<?xi32>) -> tensor<9xi32> | sound

@@ -1,5 +1,7 @@
 use crate::{Unsound, judge};
-use sh_base::{Place, Refusal};
+use sh_base::{Place, Refusal, Same};
+use sh_ir::copy_module;
+use sh_verify::Verified;
 use std::alloc::Global;
 use std::process::Abort;
 use std::test::Fail;
@@ -9,11 +11,22 @@ const LONGEST: usize = 16_777_216;
 /// The text around an operation: a function without results is open before it, and ends behind it.
 pub const END: &str = "return } }";
 
+/// `sound` where a copy of the module is equal to it.
+fn copied(alloc: Global, found: &Verified) -> Result<String, Fail> {
+    let copy = copy_module(alloc, found.module())?;
+    let word = if copy.same(found.module()) {
+        "sound"
+    } else {
+        "another copy"
+    };
+    Ok(String::from_str(alloc, word)?)
+}
+
 /// `sound`, or the code and the place of the first fault.
 pub fn answer(rt: &impl Abort, alloc: Global, text: &str) -> Result<String, Fail> {
     assert!(rt; text.len() <= LONGEST);
     match judge(alloc, text.as_bytes()) {
-        Ok(_) => Ok(String::from_str(alloc, "sound")?),
+        Ok(found) => copied(alloc, &found),
         Err(Unsound::Mem) => Ok(String::from_str(alloc, "memory")?),
         Err(Unsound::At(Refusal { place, rule })) => {
             let Place { line, column } = place;

@@ -15,6 +15,10 @@ shard.grid @g(shape = 1025) | L3 2:1
 shard.grid @g(shape = 32x32) | sound
 shard.grid @g(shape = 32x33) | L3 2:1
 shard.grid @g(shape = 0x1025) | V5 2:1
+shard.grid @g(shape = 1025x1x1x1x1) | L2 2:1
+shard.grid @g(shape = 2) shard.grid @h(shape = 1025) | L3 2:26
+shard.grid @g(shape = 1025) shard.grid @h(shape = 1x1x1x1x1) | L3 2:1
+shard.grid @g(shape = 18446744073709551615x0) | V5 2:1
 shard.grid @g(shape = 18446744073709551615x18446744073709551615) | L3 2:1
 func.func @f(%a: tensor<1x1x1x1x1x1xi8>) { return } | sound
 func.func @f(%a: tensor<1x1x1x1x1x1x1xi8>) { return } | L2 2:1

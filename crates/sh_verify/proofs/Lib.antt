@@ -14,3 +14,4 @@ pub mod RelationLaws
 pub mod RuleLaws
 pub mod TableLaws
 pub mod VerifiedLaws
+pub mod SlicedLaws

@@ -16,7 +16,7 @@ use crate::attributes::{input_rank, numbers_fit, output_rank};
 use crate::context::Context;
 use crate::joins::can_join;
 use crate::loop_maps::{Followed, LoopMap, Operands, follow};
-use crate::numbers::natural;
+use crate::results::are_sliced;
 use crate::sizes::dims;
 use crate::typing::{is_scalar, is_test_of};
 use sh_ir::{
@@ -261,36 +261,17 @@ fn reduce_fits(in_order: bool, x: &Reduce) -> bool
 
 // ---- the other operations
 
-fn has_size(dim: Dim, size: &i128) -> bool
-    ensures { result ≡ agreement.dims_agree dim (Known (numbers.as_natural size.now)) }
-{
-    match dim {
-        Dim::Known(extent) => extent as u128 == natural(size),
-        Dim::Differs => true,
-    }
-}
-
-/// Whether extents are the written ones, as far as they are known.
-fn have_sizes(extents: &[Dim], sizes: &[i128]) -> bool
-    ensures { result ≡ agreement.shapes_agree extents.now (numbers.known_dims sizes.now) }
-{
-    if extents.len() != sizes.len() {
-        return false;
-    }
-    for (at, dim) in extents.iter().enumerate() {
-        if !has_size(*dim, &sizes[at]) {
-            return false;
-        }
-    }
-    true
-}
-
 #[tactic(auto, unfolding(sh_ir::specs::Operands::is_part_of))]
 fn is_part_of(x: &InsertSlice, in_order: bool, value_type: &ValueType) -> bool
     ensures { result ≡ operands.is_part_of x.now in_order value_type.now }
 {
     has_same_rank_and_bits(&x.source_type, value_type)
-        && (!in_order || have_sizes(dims(&x.source_type), x.slice.sizes.as_slice()))
+        && (!in_order
+            || are_sliced(
+                x.slice.sizes.as_slice(),
+                dims(value_type),
+                dims(&x.source_type),
+            ))
 }
 
 fn agree_with(types: &[ValueType], args: &[Arg]) -> bool

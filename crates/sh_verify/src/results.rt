@@ -55,12 +55,43 @@ pub(crate) fn are_extents(written: &[i128], extents: &[Dim]) -> bool
 
 // ---- slices and reshapes
 
+/// Whether an extent is that of a slice of this size along a dimension, as far as it is known: a
+/// dimension whose extent is `?` is taken whole.
+fn is_sliced(size: &i128, whole: Dim, part: Dim) -> bool
+    ensures { result ≡ agreement.dims_agree (attributes.sliced_dim size.now whole) part }
+{
+    match whole {
+        Dim::Known(_) => is_written(size, part),
+        Dim::Differs => true,
+    }
+}
+
+/// Whether extents are those of a slice of these sizes.
+pub(crate) fn are_sliced(sizes: &[i128], whole: &[Dim], part: &[Dim]) -> bool
+    ensures { result ≡ agreement.shapes_agree (attributes.sliced_dims sizes.now whole.now) part.now }
+{
+    if sizes.len().min(whole.len()) != part.len() {
+        return false;
+    }
+    for (at, dim) in part.iter().enumerate() {
+        if !is_sliced(&sizes[at], whole[at], *dim) {
+            return false;
+        }
+    }
+    true
+}
+
 #[tactic(auto, unfolding(sh_ir::specs::Results::is_slice))]
 fn is_slice(in_order: bool, x: &ExtractSlice, result_type: &ValueType) -> bool
     ensures { result ≡ results.is_slice in_order x.now result_type.now }
 {
     has_same_rank_and_bits(&x.source_type, result_type)
-        && (!in_order || are_extents(x.slice.sizes.as_slice(), dims(result_type)))
+        && (!in_order
+            || are_sliced(
+                x.slice.sizes.as_slice(),
+                dims(&x.source_type),
+                dims(result_type),
+            ))
 }
 
 fn is_collapsed(in_order: bool, x: &CollapseShape, result_type: &ValueType) -> bool
