@@ -16,3 +16,4 @@ pub mod Made
 pub mod Order
 pub mod Laws
 pub mod Positions
+pub mod Splits
