@@ -1,0 +1,5 @@
+pub mod Words
+pub mod Values
+pub mod Tables
+pub mod Meaning
+pub mod Commands
