@@ -1,0 +1,11 @@
+pub mod AnswerLaws
+pub mod Examples
+pub mod FaultLaws
+pub mod FaultLists
+pub mod FoundLaws
+pub mod LeastLaws
+pub mod OneBroken
+pub mod OrderLaws
+pub mod PlaceLaws
+pub mod ReadLaws
+pub mod WithinLaws
