@@ -1,0 +1,9 @@
+pub mod TokenReadings
+pub mod WrittenText
+pub mod LayoutLexes
+pub mod Decimals
+pub mod ReadablePieces
+pub mod ReadableForms
+pub mod ReadableLiterals
+pub mod ReadableOperations
+pub mod ReadableModules

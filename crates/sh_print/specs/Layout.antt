@@ -1,5 +1,5 @@
 -- How a list of tokens is laid out as a text.
-use Rattle.std.specs.Prelude.{ℕ, ◌-◌, Bool, false, ◌||◌, if◌then◌else◌, nat_eq, List, [], ◌∷◌, ◌++◌, length, take, fold, codes}
+use Rattle.std.specs.Prelude.{ℕ, suc, ◌*◌, ◌-◌, Bool, false, ◌||◌, if◌then◌else◌, nat_eq, List, [], ◌∷◌, ◌++◌, replicate, codes}
 use Rattle.std.specs.List.{list_any}
 use Rattle.sh_lex.specs.declared.tokens.TokenKind.{TokenKind}
 use Rattle.sh_lex.specs.declared.tokens.TokenKind.TheVariants.{Word, Val, At, Hash, Block, Bang, Number, Dim, Str, Sign, End}
@@ -13,12 +13,6 @@ pub data Piece : Type 0 where
   opening : Piece  -- the `{` of a module, a function or a region
   closing : Piece  -- its `}`
   line_end : Piece  -- the line ends here
-
--- A text as far as it is written.
-pub record Page : Type 0 where
-  pub text : List ℕ
-  pub indentation : List ℕ  -- two blanks for each open brace
-  pub behind : Behind  -- what the next token stands behind
 
 abbrev pub blank : List ℕ
 blank = codes " "
@@ -46,17 +40,6 @@ joins = is_sign_in (codes ")]>,<")
 abbrev pub opens_list : TokenKind → List ℕ → Bool
 opens_list = is_sign_in (codes "(")
 
--- what stands between a token and what it stands behind, by whether the token joins, and whether it
--- is `(`
-abbrev pub gap : Page → Bool → Bool → List ℕ
-gap page joins opens = gap_behind page.behind
-  where
-    gap_behind : Behind → List ℕ
-    gap_behind LineStart = page.indentation
-    gap_behind Joint = []
-    gap_behind Arrow = if joins then [] else blank
-    gap_behind Other = if joins || opens then [] else blank
-
 -- no blank stands after these signs, nor after the extent of a dimension
 abbrev pub behind_sign : List ℕ → Behind
 behind_sign [] = Other
@@ -76,41 +59,58 @@ behind_token Str text = Other
 behind_token Sign text = behind_sign text
 behind_token End text = Other
 
--- the page with one piece more
-unfoldable pub put : Page → Piece → Page
-put page (token kind text) = record {
-  text = page.text ++ gap page (joins kind text) (opens_list kind text) ++ text;
-  indentation = page.indentation;
-  behind = behind_token kind text;
-}
-put page apart = record {
-  text = page.text ++ codes " <";
-  indentation = page.indentation;
-  behind = Joint;
-}
-put page opening = record {
-  text = page.text ++ gap page false false ++ codes "{\n";
-  indentation = page.indentation ++ codes "  ";
-  behind = LineStart;
-}
-put page closing = let outer = take (length page.indentation - 2) page.indentation in record {
-  text = page.text ++ outer ++ codes "}";
-  indentation = outer;
-  behind = Other;
-}
-put page line_end = record {
-  text = page.text ++ codes "\n";
-  indentation = page.indentation;
-  behind = LineStart;
-}
+-- what the next token stands behind, by the piece before it
+abbrev pub behind_piece : Piece → Behind
+behind_piece (token kind text) = behind_token kind text
+behind_piece apart = Joint
+behind_piece opening = LineStart
+behind_piece closing = Other
+behind_piece line_end = LineStart
 
--- the page with these pieces more
-abbrev pub written : Page → List Piece → Page
-written = fold put
+-- two blanks for each open brace
+abbrev pub indent : ℕ → List ℕ
+indent depth = replicate (2 * depth) 32
 
-abbrev pub empty_page : Page
-empty_page = record { text = []; indentation = []; behind = LineStart }
+-- what stands before a token, by what it stands behind, the indentation, whether it joins, and
+-- whether it is `(`
+abbrev pub gap_behind : Behind → List ℕ → Bool → Bool → List ℕ
+gap_behind LineStart indentation joins opens = indentation
+gap_behind Joint indentation joins opens = []
+gap_behind Arrow indentation joins opens = if joins then [] else blank
+gap_behind Other indentation joins opens = if joins || opens then [] else blank
 
--- the text of these pieces
+-- what stands before a piece, by the number of open braces and the piece before it; the closing
+-- brace is indented as the line with the opening one
+abbrev pub gap : ℕ → Piece → Piece → List ℕ
+gap depth before (token kind text) =
+    gap_behind (behind_piece before) (indent depth) (joins kind text) (opens_list kind text)
+gap depth before apart = blank
+gap depth before opening = gap_behind (behind_piece before) (indent depth) false false
+gap depth before closing = indent (depth - 1)
+gap depth before line_end = []
+
+abbrev pub bytes_of : Piece → List ℕ
+bytes_of (token kind text) = text
+bytes_of apart = codes "<"
+bytes_of opening = codes "{\n"
+bytes_of closing = codes "}"
+bytes_of line_end = codes "\n"
+
+-- how many braces are open behind a piece
+abbrev pub depth_behind : ℕ → Piece → ℕ
+depth_behind depth (token kind text) = depth
+depth_behind depth apart = depth
+depth_behind depth opening = suc depth
+depth_behind depth closing = depth - 1
+depth_behind depth line_end = depth
+
+-- the text of these pieces, by the number of open braces and the piece before them
+unfoldable pub layout_behind : ℕ → Piece → List Piece → List ℕ
+layout_behind depth before [] = []
+layout_behind depth before (piece ∷ pieces) =
+    gap depth before piece
+    ++ (bytes_of piece ++ layout_behind (depth_behind depth piece) piece pieces)
+
+-- the text of these pieces, which begins a line
 abbrev pub layout : List Piece → List ℕ
-layout pieces = (written empty_page pieces).text
+layout pieces = layout_behind 0 line_end pieces

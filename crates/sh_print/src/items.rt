@@ -1,5 +1,5 @@
 ghost use Rattle.std.specs.Prelude.{◌≡◌, IfOk, OnOk, flat_map};
-ghost use Rattle.sh_print.specs.Layout.{written};
+ghost use Rattle.sh_print.specs.Pages.{written};
 ghost use Rattle.sh_print.specs.Tokens as tokens;
 ghost use Rattle.sh_print.specs.Spellings.{list_of, rest_of_list};
 
@@ -20,6 +20,7 @@ use std::alloc::Global;
 /// want of memory. A module that isn't verified has a text too, which may be none of the language:
 /// a name that nothing defines is printed as `%_`, and contents that don't fit their type as an
 /// undefined cell.
+#[tactic(auto, using(crate::proofs::WrittenText::written_text))]
 pub fn print(alloc: Global, m: &Module) -> Result<Vec<u8>, Mem>
     ensures { IfOk result (λ text. text.items ≡ tokens.text_of m.now) }
 {

@@ -2,7 +2,7 @@
 //!
 //! `specs/Tokens.antt` says which tokens a module's text has, form by form in the order of the
 //! grammar, and `specs/Layout.antt` how a list of tokens is laid out. [`print`] writes exactly that
-//! text.
+//! text, and a formed module's text has exactly these tokens ([`printed_tokens`]).
 #![tactic(auto)]
 
 mod arith;
@@ -23,4 +23,4 @@ mod tensor;
 mod words;
 
 pub use items::print;
-pub use laws::examples;
+pub use laws::{examples, layout_keeps_tokens, printed_tokens};

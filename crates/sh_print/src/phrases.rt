@@ -1,5 +1,5 @@
 ghost use Rattle.std.specs.Prelude.{◌≡◌, OnOk, take, drop};
-ghost use Rattle.sh_print.specs.Layout.{written};
+ghost use Rattle.sh_print.specs.Pages.{written};
 ghost use Rattle.sh_print.specs.Spellings.{rest_of_list};
 ghost use Rattle.sh_print.specs.Tokens as tokens;
 

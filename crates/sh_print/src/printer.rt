@@ -1,9 +1,10 @@
-#![tactic(auto, unfolding(crate::specs::Layout::put))]
+#![tactic(auto, unfolding(crate::specs::Pages::put))]
 
 ghost use Rattle.std.specs.Prelude.{◌≡◌, [], ◌∷◌, ◌++◌, codes, decimal, false, OnOk};
 ghost use Rattle.sh_lex.specs.declared.tokens.TokenKind.TheVariants as kind;
-ghost use Rattle.sh_print.specs.Layout.{gap as gap_of, put};
+ghost use Rattle.sh_print.specs.Layout.{gap_behind};
 ghost use Rattle.sh_print.specs.Layout.Piece.{apart, closing, line_end, opening, token};
+ghost use Rattle.sh_print.specs.Pages.{put};
 ghost use Rattle.sh_print.specs.Values.{value as value_piece};
 ghost use Rattle.sh_print.specs.declared.behind.Behind.TheVariants as behind;
 
@@ -23,7 +24,7 @@ pub(crate) struct Printer {
 }
 
 impl Model for Printer {
-    ghost use Rattle.sh_print.specs.Layout.{Page};
+    ghost use Rattle.sh_print.specs.Pages.{Page};
 
     ghost Value = { Page };
 
@@ -35,7 +36,7 @@ impl Model for Printer {
 }
 
 impl Printer {
-    ghost use Rattle.sh_print.specs.Layout.{empty_page};
+    ghost use Rattle.sh_print.specs.Pages.{empty_page};
 
     /// An empty text.
     pub(crate) fn new(alloc: Global) -> Printer
@@ -63,7 +64,9 @@ impl Printer {
     /// What stands before a token, by whether it joins what is before it, and whether it is `(`.
     fn gap(&mut self, joins: bool, opens: bool) -> Result<(), Mem>
         ensures { OnOk result (self.new ≡ record self.old {
-          text = self.old.text ++ gap_of self.old joins opens;
+          text =
+              self.old.text
+              ++ gap_behind self.old.behind self.old.indentation joins opens;
         }) }
     {
         match self.behind {
@@ -86,7 +89,10 @@ impl Printer {
     /// A token that is neither a sign nor an extent, in two parts.
     fn plain(&mut self, front: &[u8], back: &[u8]) -> Result<(), Mem>
         ensures { OnOk result (self.new ≡ record self.old {
-          text = self.old.text ++ gap_of self.old false false ++ front.now ++ back.now;
+          text =
+              self.old.text
+              ++ gap_behind self.old.behind self.old.indentation false false
+              ++ front.now ++ back.now;
           behind = behind.Other;
         }) }
     {

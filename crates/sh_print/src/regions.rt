@@ -1,5 +1,5 @@
 ghost use Rattle.std.specs.Prelude.{◌≡◌, OnOk, ◌+◌, ◌<◌, ◌^◌, flat_map, length};
-ghost use Rattle.sh_print.specs.Layout.{written};
+ghost use Rattle.sh_print.specs.Pages.{written};
 ghost use Rattle.sh_print.specs.Tokens as tokens;
 ghost use Rattle.sh_print.specs.Values.{name_inside};
 

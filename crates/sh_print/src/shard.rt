@@ -1,5 +1,5 @@
 ghost use Rattle.std.specs.Prelude.{◌≡◌, OnOk};
-ghost use Rattle.sh_print.specs.Layout.{written};
+ghost use Rattle.sh_print.specs.Pages.{written};
 ghost use Rattle.sh_print.specs.Tokens as tokens;
 
 use crate::arith::of_type;

@@ -1,7 +1,8 @@
 ghost use Rattle.std.specs.Prelude.{◌≡◌, ℤ, List, ◌∷◌, [], OnOk};
 ghost use Rattle.sh_lex.specs.declared.tokens.TokenKind.TheVariants as kind;
-ghost use Rattle.sh_print.specs.Layout.{Piece, written};
+ghost use Rattle.sh_print.specs.Layout.{Piece};
 ghost use Rattle.sh_print.specs.Layout.Piece.{token};
+ghost use Rattle.sh_print.specs.Pages.{written};
 ghost use Rattle.sh_print.specs.Spellings.{in_brackets, list_of, num, nums, rest_of_list};
 ghost use Rattle.sh_print.specs.Words.{iterator_word as iterator_text};
 ghost use Rattle.std.specs.Prelude.{codes, decimal, ◌++◌};

@@ -2,7 +2,7 @@ ghost use Rattle.std.specs.Prelude.{◌≡◌, ◌+◌, ◌<◌, ◌≤◌, ◌^
 ghost use Rattle.sh_ir.specs.Shapes.{extent_of, shape_of};
 ghost use Rattle.sh_ir.specs.declared.types.ValueType.TheVariants as value_type;
 ghost use Rattle.sh_lex.specs.declared.tokens.TokenKind.TheVariants as kind;
-ghost use Rattle.sh_print.specs.Layout.{written};
+ghost use Rattle.sh_print.specs.Pages.{written};
 ghost use Rattle.sh_print.specs.Layout.Piece.{token};
 ghost use Rattle.sh_print.specs.Spellings as spelling;
 

@@ -1,5 +1,5 @@
 use Rattle.std.proofs.Common.{◌≡◌, flat_map, take}
-use Rattle.sh_print.specs.Layout.{written}
+use Rattle.sh_print.specs.Pages.{written}
 use Rattle.sh_print.specs.Tokens as tokens
 use Rattle.sh_print.proofs.items.functions.Given as goal
 

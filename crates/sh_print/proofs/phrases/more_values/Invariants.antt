@@ -1,5 +1,5 @@
 use Rattle.std.proofs.Common.{◌≡◌, take}
-use Rattle.sh_print.specs.Layout.{written}
+use Rattle.sh_print.specs.Pages.{written}
 use Rattle.sh_print.specs.Spellings.{rest_of_list}
 use Rattle.sh_print.specs.Tokens.{value_in}
 use Rattle.sh_print.proofs.phrases.more_values.Given as goal

@@ -1,6 +1,6 @@
 use Rattle.std.proofs.Common.{◌≡◌, [], ◌∷◌, length, replicate}
 use Rattle.sh_lex.specs.declared.tokens.TokenKind.TheVariants as kind
-use Rattle.sh_print.specs.Layout.{written}
+use Rattle.sh_print.specs.Pages.{written}
 use Rattle.sh_print.specs.Layout.Piece.{token}
 use Rattle.sh_print.specs.Spellings.{begun}
 use Rattle.sh_print.proofs.spellings.brackets.Given as goal

@@ -1,5 +1,5 @@
 use Rattle.std.proofs.Common.{◌≡◌, drop}
-use Rattle.sh_print.specs.Layout.{written}
+use Rattle.sh_print.specs.Pages.{written}
 use Rattle.sh_print.specs.Spellings.{cells_from}
 use Rattle.sh_print.proofs.spellings.nested.Given as goal
 
