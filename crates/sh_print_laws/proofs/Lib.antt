@@ -1,0 +1,15 @@
+pub mod Walks
+pub mod Tests
+pub mod Keywords
+pub mod Rows
+pub mod Decimals
+pub mod ListForms
+pub mod PlainForms
+pub mod ValueForms
+pub mod ArithForms
+pub mod TensorForms
+pub mod LinalgForms
+pub mod ShardForms
+pub mod KindForms
+pub mod ReadingBack
+pub mod OperationForms

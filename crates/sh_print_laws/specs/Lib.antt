@@ -1,0 +1,2 @@
+pub mod TokensOf
+pub mod ReadsBack

@@ -1,0 +1,45 @@
+//! The laws of printing: what is printed is read back.
+//!
+//! `specs/TokensOf.antt` says which lexemes are the tokens of printed pieces, and
+//! `specs/ReadsBack.antt` when such tokens are read as a part of a module. Nothing is asked of
+//! where they stand, and each name may have any number that goes by its text.
+#![tactic(auto)]
+
+ghost use Rattle.std.specs.Prelude.{◌≡◌, ℕ, List, map, true, IsTrue, Some};
+ghost use Rattle.sh_base.specs.declared.places.Place.{Place};
+ghost use Rattle.sh_build.specs.Meaning.{side};
+ghost use Rattle.sh_grammar.specs.Lexemes.{Lexeme};
+ghost use Rattle.sh_grammar.specs.declared.forms.Form.TheVariants.{RightSide, ValueType as TypeForm};
+ghost use Rattle.sh_ir.specs.Formed.{is_spelled_type};
+ghost use Rattle.sh_ir.specs.Parts.{op_of};
+ghost use Rattle.sh_ir.specs.declared.operations.OpKind.{OpKind};
+ghost use Rattle.sh_ir.specs.declared.types.ValueType.{ValueType};
+ghost use Rattle.sh_print.specs.Spellings.{type_pieces};
+ghost use Rattle.sh_print.specs.Tokens.{kind_pieces, op_pieces};
+ghost use Rattle.sh_print.specs.Values.{Scope};
+ghost use Rattle.sh_print_laws.specs.ReadsBack.{IsOperationRead, IsWritten, ReadBack, by_names};
+ghost use Rattle.sh_print_laws.specs.ReadsBack.{is_simple, type_part};
+ghost use Rattle.sh_print_laws.specs.TokensOf.{AreTokensOf};
+
+/// A type that a text can spell is read back as it was printed.
+pub fn types_read_back()
+    ensures { (number : List ℕ → ℕ) (t : ValueType) → IsTrue (is_spelled_type t)
+        → ReadBack (type_pieces t) number TypeForm (type_part t) }
+{}
+
+/// The right side of an operation with neither a literal nor a region is read back as it is, with
+/// the numbers of the names that its operands have in the text.
+pub fn right_sides_read_back()
+    ensures { (number : List ℕ → ℕ) (scope : Scope) (k : OpKind) (xs : List ℕ) (t : ValueType)
+        → is_simple k ≡ true → IsWritten k xs t
+        → ReadBack (kind_pieces scope k xs t) number RightSide
+        (side k (map (by_names number scope) xs) t) }
+{}
+
+/// Such an operation is read back as the same operation up to its place, with its names renamed.
+pub fn operations_read_back()
+    ensures { (number : List ℕ → ℕ) (scope : Scope) (id : ℕ) (k : OpKind) (xs : List ℕ)
+        (t : ValueType) (place : Place) → is_simple k ≡ true → IsWritten k xs t
+        → (ts : List Lexeme) → AreTokensOf (op_pieces scope (op_of k xs (Some id) t place)) ts
+        → IsOperationRead ts number scope (op_of k xs (Some id) t place) }
+{}
