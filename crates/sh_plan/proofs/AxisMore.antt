@@ -86,31 +86,47 @@ nested i k c q below =
     let most : (c + 1) * q ≤ k * q = mul-le-mul_right q (omega (arith, below)) in
     record { begins = omega arith; ends = omega (arith, most); sizes = omega arith }
 
-axis_more : (g : List ℕ) (d : Dimension) (a device : ℕ) → IsGrid g → AreAxesOf (length g) (with_axis d a).axes → is_even g (with_axis d a) ≡ true →
-    device < cell_count g → IsNested (get_or g a 0) (start_in g device d) (size_in g device d) (start_in g device (with_axis d a)) (size_in g device (with_axis d a))
+-- the parts before and after, each of one size
+pub record IsAxisMore (g : List ℕ) (d : Dimension) (a device : ℕ) : Type 0 where
+  pub few : IsEvenPart g d device
+  pub many : IsEvenPart g (with_axis d a) device
+  pub size : d.extent / parts_of g d ≡ d.extent / parts_of g (with_axis d a) * get_or g a 0
+
+pub axis_parts : (g : List ℕ) (d : Dimension) (a device : ℕ) → IsGrid g → AreAxesOf (length g) (with_axis d a).axes → is_even g (with_axis d a) ≡ true →
+    device < cell_count g → IsAxisMore g d a device
 unfolding part_of parts_of
-axis_more g d a device grid axes even here =
+axis_parts g d a device grid axes even here =
     let e = even_is g (with_axis d a) even in
-    let k = get_or g a 0 in
     let parts = (axes_join (length g) d.axes (a ∷ [])).0 axes in
-    let below = IsIndexOf-entry g (unflat_of g device) a (unflat_of-within g device here) parts.2.0 in
     let push : group_size_of g (d.axes ++ a ∷ []) ≡ group_size_of g d.axes * get_or g a 0 = group_size_of-push g d.axes a in
     let all : 0 < group_size_of g d.axes * get_or g a 0 = subst (λ n. 0 < n) push (group_size_of-some g (d.axes ++ a ∷ []) grid.positive axes) in
     let some = group_size_of-some g d.axes grid.positive parts.0 in
     let divided : d.extent % (group_size_of g d.axes * get_or g a 0) ≡ 0 = subst (λ n. d.extent % n ≡ 0) push e.divided in
-    let few = even_part g d device grid (record {
-      axes = parts.0;
-      balanced = e.balanced;
-      divided = divides_front d.extent (group_size_of g d.axes) (get_or g a 0) some all divided;
-    }) here in
-    let many = even_part g (with_axis d a) device grid (record { axes = axes; balanced = e.balanced; divided = e.divided }) here in
     let whole = (quotient d.extent (group_size_of g d.axes * get_or g a 0) all divided).whole in
     let product : d.extent ≡ d.extent / (group_size_of g d.axes * get_or g a 0) * get_or g a 0 * group_size_of g d.axes = omega (arith, whole) in
     let size : d.extent / group_size_of g d.axes ≡ d.extent / (group_size_of g d.axes * get_or g a 0) * get_or g a 0 =
     ap (λ n. n / group_size_of g d.axes) product ∙ mul-div_cancel (d.extent / (group_size_of g d.axes * get_or g a 0) * get_or g a 0) some in
+    record {
+      few = even_part g d device grid (record {
+        axes = parts.0;
+        balanced = e.balanced;
+        divided = divides_front d.extent (group_size_of g d.axes) (get_or g a 0) some all divided;
+      }) here;
+      many = even_part g (with_axis d a) device grid (record { axes = axes; balanced = e.balanced; divided = e.divided }) here;
+      size = rw push size;
+    }
+
+axis_more : (g : List ℕ) (d : Dimension) (a device : ℕ) → IsGrid g → AreAxesOf (length g) (with_axis d a).axes → is_even g (with_axis d a) ≡ true →
+    device < cell_count g → IsNested (get_or g a 0) (start_in g device d) (size_in g device d) (start_in g device (with_axis d a)) (size_in g device (with_axis d a))
+unfolding part_of parts_of
+axis_more g d a device grid axes even here =
+    let p = axis_parts g d a device grid axes even here in
+    let k = get_or g a 0 in
+    let parts = (axes_join (length g) d.axes (a ∷ [])).0 axes in
+    let below = IsIndexOf-entry g (unflat_of g device) a (unflat_of-within g device here) parts.2.0 in
     let place = place_in-push g d.axes a device in
-    rw (few.begins, few.size, many.begins, many.size, push, place, size)
-    (nested (place_in g d.axes device) (get_or g a 0) (get_or (unflat_of g device) a 0) (d.extent / (group_size_of g d.axes * get_or g a 0)) below)
+    rw (p.few.begins, p.few.size, p.many.begins, p.many.size, place, p.size)
+    (nested (place_in g d.axes device) (get_or g a 0) (get_or (unflat_of g device) a 0) (d.extent / group_size_of g (d.axes ++ a ∷ [])) below)
 
 -- where an axis more leaves a dimension even
 pub cut_by : (g : List ℕ) (d : Dimension) (a : ℕ) → IsGrid g → AreAxesOf (length g) (with_axis d a).axes → is_even g (with_axis d a) ≡ true →

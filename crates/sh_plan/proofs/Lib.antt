@@ -30,3 +30,9 @@ mod ReplicationCounts
 mod ReplicationWays
 pub mod Replication
 mod ReplicationExamples
+pub mod FinerParts
+pub mod FinerMoves
+pub mod LocalSteps
+pub mod SplitLaws
+pub mod PlanReshards
+pub mod GatherPieces

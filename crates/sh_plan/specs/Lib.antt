@@ -6,3 +6,4 @@ pub mod Tables
 pub mod Found
 pub mod Checks
 pub mod Replication
+pub mod Instructions

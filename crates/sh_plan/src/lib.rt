@@ -24,7 +24,7 @@ pub use allowed::is_allowed;
 pub use candidates::allowed_moves;
 pub use checks::check_plan;
 pub use costs::cost;
-pub use laws::{certificate_law, cost_law, reach_law, replication_law};
+pub use laws::{certificate_law, cost_law, reach_law, replication_law, split_law};
 pub use moves::Move;
 pub use moving::moved;
 pub use named::is_named;

@@ -1,0 +1,17 @@
+ghost use Rattle.std.specs.Prelude.{ℕ, ◌<◌};
+ghost use Rattle.sh_base.specs.declared.numbers.Width.{Width};
+ghost use Rattle.sh_sharding.specs.Sharding.{ShardingValue};
+ghost use Rattle.sh_plan.specs.declared.moves.Move.{Move};
+ghost use Rattle.sh_plan.specs.declared.plans.Plan.{Plan};
+ghost use Rattle.sh_plan.specs.Instructions.{IsMoveAt, IsPlainPlan, Reshards, ReshardsAlong};
+ghost use Rattle.sh_plan.specs.Moves.{moved};
+
+/// Run in step, the instruction of a move makes the cuts by the one sharding those by the other, of
+/// every tensor that the sharding is of; and the instructions of a plan make the cuts by the source
+/// those by the target.
+pub fn reshard_laws()
+    ensures moves { (w : Width) (s to : ShardingValue) (m : Move) (value name : ℕ) →
+        IsMoveAt s to m → Reshards w s (moved s to m) m value name }
+    ensures plans { (w : Width) (from to : ShardingValue) (p : Plan) (value first : ℕ) →
+        IsPlainPlan from to p → value < first → ReshardsAlong w from to p.moves value first }
+{}
