@@ -1,0 +1,10 @@
+pub mod ElementGiven
+pub mod ElementCut
+pub mod Implied
+pub mod ElementRules
+pub mod ElementLaws
+pub mod SplitViews
+mod Examples
+pub mod ElementOf
+pub mod SplitLists
+pub mod ImpliedViewLaws

@@ -1,0 +1,12 @@
+pub mod LoopNest
+pub mod Splits
+pub mod Valid
+pub mod Meaning
+pub mod Lawful
+pub mod BodyKinds
+pub mod Table
+pub mod Whole
+pub mod Elements
+pub mod ScaledViews
+pub mod Verified
+pub mod ImpliedViews

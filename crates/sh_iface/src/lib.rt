@@ -1,0 +1,17 @@
+//! What propagation and the partitioner ask of an operation: its loops, what each dimension of its
+//! values follows, which ways to split the loops are valid, how its values are split then, and its
+//! local part, with the laws between these.
+#![tactic(auto)]
+
+mod iface;
+mod laws;
+mod options;
+mod parts;
+mod validity;
+mod viewing;
+
+pub use iface::{HasLoops, ShardIface};
+pub use laws::{element_laws, unsplit_is_valid};
+pub use options::{Follow, How, LoopOption, Split};
+pub use parts::LocalPart;
+pub use validity::is_valid;
