@@ -1,0 +1,6 @@
+pub mod DeviceLaws
+pub mod GroupLaws
+pub mod ListLaws
+pub mod ShiftLaws
+pub mod SizeLaws
+pub mod WayLaws

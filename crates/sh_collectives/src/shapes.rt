@@ -1,0 +1,144 @@
+ghost use Rattle.std.specs.Prelude.{◌≡◌, ◌<◌, ◌≤◌, [], All, IfSome, Some, ℕ, get_or, length, map, option_and_then, option_map};
+ghost use Rattle.sh_base.specs.Limits.{max_devices};
+ghost use Rattle.sh_collectives.specs.Ways.{CanWork, IsGroup, collecting_by, source_by};
+ghost use Rattle.sh_sem.specs.Collected as collected;
+ghost use Rattle.sh_sem.specs.Pieces as pieces;
+
+use crate::members::{are_like, are_same, piece_size, total_extent};
+use crate::shifts::source;
+use crate::sizes::{Sizes, sizes_of, sizes_with};
+use crate::ways::{Shifting, Way};
+use sh_base::Shape;
+use sh_tensor::with_extent;
+use std::alloc::Global;
+
+/// The shape of all operands one after the other along an axis.
+fn gathered(alloc: Global, axis: u64, shapes: &[&Shape]) -> Option<Sizes>
+    requires some { 0 < length shapes.now }
+    requires few { length shapes.now ≤ max_devices }
+    requires axes { All (λ s. axis < length s) (map (λ s. s.now) shapes.now) }
+    ensures { option_map (λ s. s.items) result
+        ≡ pieces.joined_shape axis (map (λ s. s.now) shapes.now) }
+{
+    let first = shapes[0];
+    if !are_like(alloc, axis, first, &shapes[1..]) {
+        return None;
+    }
+    Some(sizes_with(alloc, first, axis, total_extent(axis, shapes)))
+}
+
+/// The one shape of all operands.
+fn common<'a>(shapes: &[&'a Shape]) -> Option<&'a Shape>
+    requires { 0 < length shapes.now }
+    ensures value { option_map (λ s. s.now) result
+        ≡ pieces.common_shape (map (λ s. s.now) shapes.now) }
+    ensures first { IfSome result (λ s. s.now ≡ get_or (map (λ s. s.now) shapes.now) 0 []) }
+{
+    let first = shapes[0];
+    if !are_same(first, &shapes[1..]) {
+        return None;
+    }
+    Some(first)
+}
+
+/// The shape of a combination of all operands.
+fn reduced(alloc: Global, shapes: &[&Shape]) -> Option<Sizes>
+    requires { 0 < length shapes.now }
+    ensures { option_map (λ s. s.items) result
+        ≡ pieces.common_shape (map (λ s. s.now) shapes.now) }
+{
+    match common(shapes) {
+        Some(s) => Some(sizes_of(alloc, s)),
+        None => None,
+    }
+}
+
+/// The shape of a piece of a tensor.
+fn piece_of(alloc: Global, axis: u64, s: &Shape, members: u64) -> Option<Sizes>
+    requires { axis < length s.now }
+    ensures { (p : ℕ) → option_map (λ s. s.items) result
+        ≡ collected.scattered_shape axis members p s.now }
+{
+    match piece_size(s.extents()[axis as usize], members) {
+        Some(size) => Some(sizes_with(alloc, s, axis, size as u128)),
+        None => None,
+    }
+}
+
+/// The shape of a piece of the combination of all operands.
+fn scattered(alloc: Global, axis: u64, shapes: &[&Shape]) -> Option<Sizes>
+    requires some { 0 < length shapes.now }
+    requires axes { All (λ s. axis < length s) (map (λ s. s.now) shapes.now) }
+    ensures { (p : ℕ) → option_map (λ s. s.items) result
+        ≡ option_and_then (collected.scattered_shape axis (length shapes.now) p)
+        (pieces.common_shape (map (λ s. s.now) shapes.now)) }
+{
+    match common(shapes) {
+        Some(s) => piece_of(alloc, axis, s, shapes.len() as u64),
+        None => None,
+    }
+}
+
+/// The shape of so many pieces of a tensor, one after the other.
+fn pieces_of(alloc: Global, split: u64, concat: u64, s: &Shape, members: u64) -> Option<Sizes>
+    requires split { split < length s.now }
+    requires concat { concat < length s.now }
+    requires few { members ≤ max_devices }
+    ensures { (p : ℕ) → option_map (λ s. s.items) result
+        ≡ collected.exchanged_shape split concat members p s.now }
+{
+    match piece_size(s.extents()[split as usize], members) {
+        Some(size) => {
+            let part = with_extent(alloc, s, split, size);
+            let extent = part.extents()[concat as usize];
+            Some(sizes_with(alloc, &part, concat, members as u128 * extent as u128))
+        }
+        None => None,
+    }
+}
+
+/// The shape of a piece of each operand, one after the other.
+fn exchanged(alloc: Global, split: u64, concat: u64, shapes: &[&Shape]) -> Option<Sizes>
+    requires some { 0 < length shapes.now }
+    requires few { length shapes.now ≤ max_devices }
+    requires split { All (λ s. split < length s) (map (λ s. s.now) shapes.now) }
+    requires concat { All (λ s. concat < length s) (map (λ s. s.now) shapes.now) }
+    ensures { (p : ℕ) → option_map (λ s. s.items) result
+        ≡ option_and_then (collected.exchanged_shape split concat (length shapes.now) p)
+        (pieces.common_shape (map (λ s. s.now) shapes.now)) }
+{
+    match common(shapes) {
+        Some(s) => pieces_of(alloc, split, concat, s, shapes.len() as u64),
+        None => None,
+    }
+}
+
+/// The shape that a shift gives at a place: that of the source, or the own one.
+fn moved<'a>(alloc: Global, x: &Shifting, shapes: &[&'a Shape], place: u64) -> &'a Shape
+    requires group { IsGroup x.now (length shapes.now) }
+    requires few { length shapes.now ≤ max_devices }
+    requires place { place < length shapes.now }
+    ensures { Some result.now
+        ≡ collected.shifted_shape (source_by x.now place) place (map (λ s. s.now) shapes.now) }
+{
+    match source(alloc, x, place) {
+        Some(from) => shapes[from as usize],
+        None => shapes[place as usize],
+    }
+}
+
+/// The extents that a collective gives at a place; none where sizes disagree.
+pub(crate) fn sizes_at(alloc: Global, way: &Way, shapes: &[&Shape], place: u64) -> Option<Sizes>
+    requires works { CanWork way.now (map (λ s. s.now) shapes.now) }
+    requires place { place < length shapes.now }
+    ensures { option_map (λ s. s.items) result
+        ≡ (collecting_by way.now).shape place (map (λ s. s.now) shapes.now) }
+{
+    match way {
+        Way::Gather(axis) => gathered(alloc, *axis, shapes),
+        Way::Reduce(_) => reduced(alloc, shapes),
+        Way::Scatter(_, axis) => scattered(alloc, *axis, shapes),
+        Way::Exchange(split, concat) => exchanged(alloc, *split, *concat, shapes),
+        Way::Shift(x) => Some(sizes_of(alloc, moved(alloc, x, shapes, place))),
+    }
+}
