@@ -14,18 +14,18 @@ use Rattle.sh_tensor.specs.Tensor.{TensorValue}
 use Rattle.sh_sem.specs.Nest.{all_followed, extent_of_loop, extents_by, followed, has_room, have_ranks, index_at, maps_of, sizes_agree}
 use Rattle.sh_eval.specs.Nests.{AreInside, all_follow_loops, follows_loops}
 
-both_left : (a b : Bool) → (a && b) ≡ true → a ≡ true
+pub both_left : (a b : Bool) → (a && b) ≡ true → a ≡ true
 both_left true b h = refl
 both_left false b h = h
 
-both_right : (a b : Bool) → (a && b) ≡ true → b ≡ true
+pub both_right : (a b : Bool) → (a && b) ≡ true → b ≡ true
 both_right true b h = h
 both_right false b h = absurd (cc)
 
-below_by : (a b : ℕ) → nat_lt a b ≡ true → a < b
+pub below_by : (a b : ℕ) → nat_lt a b ≡ true → a < b
 below_by a b h = grind (arith, nat_tests)
 
-equal_by : (a b : ℕ) → (a == b) ≡ true → a ≡ b
+pub equal_by : (a b : ℕ) → (a == b) ≡ true → a ≡ b
 equal_by a b h = grind (arith, nat_tests)
 
 sum-more : (f : ℕ → ℕ) (l : ℕ) (loops : List ℕ) → sum (map f (l ∷ loops)) ≡ f l + sum (map f loops)

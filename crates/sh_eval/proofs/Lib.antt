@@ -6,3 +6,7 @@ pub mod StepLaws
 pub mod NestLaws
 pub mod InsideLaws
 pub mod SizeLaws
+pub mod RoomLaws
+pub mod ListedLaws
+pub mod RegionLaws
+pub mod PlaceLaws

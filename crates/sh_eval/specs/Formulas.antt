@@ -1,5 +1,5 @@
 -- The element operations in memory, and the widths at which they work.
-use Rattle.std.specs.Prelude.{◌≡◌, ℕ, List, map, get_or, Option}
+use Rattle.std.specs.Prelude.{◌≡◌, ℕ, List, drop, map, get_or, Option}
 use Rattle.std.specs.List.{AllByRecursion}
 use Rattle.sh_base.specs.declared.numbers.Cell.{Cell}
 use Rattle.sh_base.specs.declared.numbers.Cell.TheVariants.{Undef}
@@ -39,6 +39,13 @@ CanApply (Binary op w) = Unit {0}
 CanApply (Compare p w) = Unit {0}
 CanApply (Choice w) = Unit {0}
 CanApply (Cast op from to) = CanCast op from to
+
+-- of a choice the condition is of any width
+abbrev pub measured : declared.Formula → List Cell → List Cell
+measured (Binary op w) cells = cells
+measured (Compare p w) cells = cells
+measured (Choice w) cells = drop 1 cells
+measured (Cast op from to) cells = cells
 
 -- what a formula gives of the cells with number k
 unfoldable pub formula_at : Formula → List (List Cell) → ℕ → Option Cell

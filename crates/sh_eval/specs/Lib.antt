@@ -3,3 +3,5 @@ pub mod Formulas
 pub mod Folds
 pub mod Nests
 pub mod Sizes
+pub mod Structures
+pub mod Regions

@@ -1,6 +1,8 @@
 ghost use Rattle.std.specs.Prelude.{◌≡◌, ◌∷◌, [], IfSome};
 ghost use Rattle.sh_base.specs.Cells.{IsCellOf};
-ghost use Rattle.sh_eval.specs.Formulas.{CanApply, formula_of, operand_width, result_width};
+ghost use Rattle.std.specs.List.{AllByRecursion};
+ghost use Rattle.sh_eval.specs.Formulas.{CanApply, formula_of, measured, operand_width};
+ghost use Rattle.sh_eval.specs.Formulas.{result_width};
 ghost use Rattle.sh_eval.specs.Formulas.{result_width as width_given};
 ghost use Rattle.sh_sem.specs.Scalars.{chosen as chosen_cell, formula_cell};
 
@@ -69,6 +71,40 @@ impl Formula {
         match self {
             Formula::Choice(_) => Some(chosen(c, a, b)),
             _ => None,
+        }
+    }
+
+    /// What it gives of cells, or none where it is stuck or they are too many or too few.
+    pub(crate) fn on_list(self, cells: &[Cell]) -> Option<Cell>
+        requires widths { CanApply self }
+        requires cells { AllByRecursion (IsCellOf (operand_width self)) (measured self cells.now) }
+        ensures { result ≡ formula_cell (formula_of self) cells.now }
+    {
+        match self {
+            Formula::Choice(_) => {
+                if cells.len() != 3 {
+                    return None;
+                }
+                self.on_three(cells[0], cells[1], cells[2])
+            }
+            Formula::Cast(..) => {
+                if cells.len() != 1 {
+                    return None;
+                }
+                self.on_one(cells[0])
+            }
+            Formula::Binary(..) => {
+                if cells.len() != 2 {
+                    return None;
+                }
+                self.on_two(cells[0], cells[1])
+            }
+            Formula::Compare(..) => {
+                if cells.len() != 2 {
+                    return None;
+                }
+                self.on_two(cells[0], cells[1])
+            }
         }
     }
 }

@@ -5,13 +5,18 @@
 mod constants;
 mod elements;
 mod formulas;
+mod loops;
 mod nests;
 mod operands;
+mod placing;
 mod points;
+mod regions;
+mod shapes;
 mod sizes;
 mod steps;
 #[cfg(test)]
 mod tests;
+mod types;
 
 pub use constants::{constant, undefined};
 pub use elements::{element_of_one, element_of_three, element_of_two};

@@ -1,8 +1,9 @@
-ghost use Rattle.std.specs.Prelude.{◌≡◌, ◌≤◌, ◌↔◌, ◌∷◌, [], length, map, nat_eq, IsTrue};
+ghost use Rattle.std.specs.Prelude.{◌≡◌, ◌≤◌, ◌↔◌, ◌∷◌, [], length, map, nat_eq, true, IsTrue};
 ghost use Rattle.std.specs.Cmp.Lexicographic.{pointwise};
 ghost use Rattle.sh_base.specs.Shape.{max_rank};
 ghost use Rattle.sh_eval.specs.Folds.{coordinate_of};
-ghost use Rattle.sh_eval.specs.Sizes.{AreRanked, has_room_for};
+ghost use Rattle.sh_eval.specs.Nests.{all_follow_loops};
+ghost use Rattle.sh_eval.specs.Sizes.{AreRanked, agreed_extents, all_with_room, has_room_for, with_room};
 ghost use Rattle.sh_eval.specs.Sizes.{extent_by, extents_with, first_alone};
 ghost use Rattle.sh_sem.specs.Nest.{followed};
 
@@ -100,4 +101,52 @@ fn has_room(extents: &[u64], loops: &[u32], extent: u64) -> bool
         return true;
     }
     u128::from(extent) + (loops.len() - 1) as u128 == total_extent(extents, loops)
+}
+
+/// Whether each dimension of an operand has room for the loops that it follows.
+fn dims_have_room(extents: &[u64], dims: &[Ids], shape: &[u64]) -> bool
+    requires { length dims.now ≡ length shape.now }
+    ensures { result ≡ with_room extents.now (followed dims.now shape.now) }
+{
+    for at in 0..dims.len() {
+        if !has_room(extents, dims[at].as_slice(), shape[at]) {
+            return false;
+        }
+    }
+    true
+}
+
+/// Whether each dimension of all operands has.
+fn all_have_room(extents: &[u64], maps: &[Items<Ids>], operands: &[&Tensor]) -> bool
+    requires { AreRanked maps.now (map (λ t. t.now) operands.now) }
+    ensures { result ≡ all_with_room extents.now maps.now (map (λ t. t.now) operands.now) }
+{
+    for at in 0..maps.len() {
+        let shape = operands[at].shape().extents();
+        if !dims_have_room(extents, maps[at].as_slice(), shape) {
+            return false;
+        }
+    }
+    true
+}
+
+/// The extents of so many loops, where the operands' sizes agree. It takes no memory.
+pub(crate) fn agreed(
+    alloc: Global,
+    maps: &[Items<Ids>],
+    operands: &[&Tensor],
+    loops: u32,
+) -> Option<Shape>
+    requires few { loops ≤ max_rank }
+    requires follow { all_follow_loops loops maps.now ≡ true }
+    ensures { result ≡ agreed_extents maps.now (map (λ t. t.now) operands.now) loops }
+{
+    if !is_ranked(maps, operands) {
+        return None;
+    }
+    let found = extents(alloc, maps, operands, loops);
+    if !all_have_room(found.extents(), maps, operands) {
+        return None;
+    }
+    Some(found)
 }

@@ -17,7 +17,7 @@ pub(crate) enum PointStep {
 }
 
 /// Whether two widths are one.
-fn same_width(v: Width, w: Width) -> bool
+pub(crate) fn same_width(v: Width, w: Width) -> bool
     ensures { IsTrue result ↔ (v ≡ w) }
 {
     v == w
