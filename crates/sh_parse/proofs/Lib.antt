@@ -1,8 +1,8 @@
 mod Answering
-mod Backwards
+pub mod Backwards
 mod FileParts
-mod OneReading
-mod Refusing
+pub mod OneReading
+pub mod Refusing
 mod RowSteps
 mod Tables
-mod formed
+pub mod formed
