@@ -2,8 +2,15 @@ pub mod Begins
 pub mod Decimals
 pub mod SumCut
 pub mod Examples
+pub mod Judged
+pub mod Level
 pub mod LineSharding
 pub mod Lines
+pub mod OneAnswer
+pub mod OneText
+pub mod Printed
 pub mod Readings
+pub mod Rewriting
+pub mod RulesKept
 pub mod SumHeadline
 pub mod SumMeaning

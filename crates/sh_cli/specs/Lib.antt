@@ -1,6 +1,9 @@
 pub mod Answer
+pub mod Ending
 pub mod Headline
 pub mod InStep
+pub mod Judging
+pub mod Line
 pub mod Modules
+pub mod Status
 pub mod VectorSum
-pub mod Words

@@ -1,8 +1,7 @@
 ghost use Rattle.std.specs.Prelude.{◌≡◌};
-ghost use Rattle.sh_cli.specs.Answer.{code_of, line_of};
+ghost use Rattle.sh_cli.specs.Status.{code_of};
 
-use crate::Tool;
-use sh_base::Mem;
+use sh_base::{Mem, Refusal};
 use sh_io::{ReadEnd, WriteFault};
 
 /// How a run of a program ends. A refusal writes nothing to the output, but for `Write`, which may
@@ -13,16 +12,31 @@ pub enum Status {
     Success,
     /// The command words aren't accepted.
     Usage,
+    /// The text stands for no module.
+    Text(Refusal),
+    /// The module breaks a rule.
+    Verify(Refusal),
+    /// A sharding of the module isn't admitted.
+    Admission(Refusal),
     /// The input failed.
     Read,
     /// The output failed.
     Write,
-    /// The input is longer than 16,777,216 bytes.
-    Limit,
+    /// A limit is passed.
+    Limit(Passed),
     /// Memory is wanting.
     Memory,
-    /// The module is of a form that isn't built yet.
+    /// What is asked for isn't built yet.
     Unbuilt,
+}
+
+/// Which limit is passed.
+#[derive(Clone, Copy, Debug, PartialEq, Eq)]
+pub enum Passed {
+    /// The input is longer than 16,777,216 bytes.
+    Input,
+    /// A limit of the module, and where.
+    At(Refusal),
 }
 
 impl Status {
@@ -33,29 +47,14 @@ impl Status {
         match self {
             Status::Success => 0,
             Status::Usage => 2,
+            Status::Text(_) => 3,
+            Status::Verify(_) => 4,
+            Status::Admission(_) => 5,
             Status::Read => 10,
             Status::Write => 11,
-            Status::Limit => 12,
+            Status::Limit(_) => 12,
             Status::Memory => 13,
             Status::Unbuilt => 14,
-        }
-    }
-
-    /// The line that the program writes to its error output, its line feed included; empty where
-    /// nothing is refused.
-    pub(crate) fn line(self, tool: Tool) -> &'static str
-        ensures { result.now ≡ line_of tool self }
-    {
-        match tool {
-            Tool::Opt => match self {
-                Status::Success => "",
-                Status::Usage => "shard-opt: error 2 usage\n",
-                Status::Read => "shard-opt: error 10 read\n",
-                Status::Write => "shard-opt: error 11 write\n",
-                Status::Limit => "shard-opt: error 12 L1\n",
-                Status::Memory => "shard-opt: error 13 memory\n",
-                Status::Unbuilt => "shard-opt: error 14 unbuilt\n",
-            },
         }
     }
 }
@@ -73,14 +72,14 @@ impl From<Mem> for Status {
 
 impl From<ReadEnd> for Status {
     ghost use Rattle.std.specs.Prelude.{◌≡◌};
-    ghost use Rattle.sh_cli.specs.Answer.{read_status};
+    ghost use Rattle.sh_cli.specs.Status.{read_status};
 
     ghost from_gives = { λ e s. s ≡ read_status e };
 
     fn from(end: ReadEnd) -> Status {
         match end {
             ReadEnd::Fault => Status::Read,
-            ReadEnd::TooLong => Status::Limit,
+            ReadEnd::TooLong => Status::Limit(Passed::Input),
             ReadEnd::Mem => Status::Memory,
         }
     }
