@@ -1,0 +1,2 @@
+// A module that isn't closed: no text goes on from its end, so the fault is there.
+module {
