@@ -2,6 +2,8 @@
 #![tactic(auto)]
 
 #[cfg(test)]
+mod admissions;
+#[cfg(test)]
 mod devices;
 #[cfg(test)]
 mod elements;
@@ -21,4 +23,4 @@ mod sizes;
 #[cfg(test)]
 mod structured;
 
-pub use judging::{Unsound, judge};
+pub use judging::{Unsound, judge, judge_shardings};

@@ -1,4 +1,4 @@
-use crate::{Unsound, judge};
+use crate::{Unsound, judge, judge_shardings};
 use sh_base::{Place, Refusal, Same};
 use sh_ir::copy_module;
 use sh_verify::Verified;
@@ -23,10 +23,9 @@ fn copied(alloc: Global, found: &Verified) -> Result<String, Fail> {
 }
 
 /// `sound`, or the code and the place of the first fault.
-pub fn answer(rt: &impl Abort, alloc: Global, text: &str) -> Result<String, Fail> {
-    assert!(rt; text.len() <= LONGEST);
-    match judge(alloc, text.as_bytes()) {
-        Ok(found) => copied(alloc, &found),
+fn said(alloc: Global, found: Result<Verified, Unsound>) -> Result<String, Fail> {
+    match found {
+        Ok(module) => copied(alloc, &module),
         Err(Unsound::Mem) => Ok(String::from_str(alloc, "memory")?),
         Err(Unsound::At(Refusal { place, rule })) => {
             let Place { line, column } = place;
@@ -34,6 +33,12 @@ pub fn answer(rt: &impl Abort, alloc: Global, text: &str) -> Result<String, Fail
             Ok(format!(in alloc; "{rule} {line}:{column}")?)
         }
     }
+}
+
+/// What is said of a text by the reader, the limits and the rules.
+pub fn answer(rt: &impl Abort, alloc: Global, text: &str) -> Result<String, Fail> {
+    assert!(rt; text.len() <= LONGEST);
+    said(alloc, judge(alloc, text.as_bytes()))
 }
 
 fn assert_row(
@@ -47,6 +52,37 @@ fn assert_row(
     let text = format!(in alloc; "{head}\n{part}\n{tail}\n")?;
     let found = answer(rt, alloc, text.as_str())?;
     assert_eq!(rt; found.as_str(), want, "{row}");
+    Ok(())
+}
+
+fn assert_admission(
+    rt: &impl Abort,
+    alloc: Global,
+    need_grid: bool,
+    head: &str,
+    row: &str,
+    tail: &str,
+) -> Result<(), Fail> {
+    let (part, want) = row.split_once(" | ").ok_or("no bar")?;
+    let text = format!(in alloc; "{head}\n{part}\n{tail}\n")?;
+    assert!(rt; text.len() <= LONGEST);
+    let found = said(alloc, judge_shardings(alloc, text.as_bytes(), need_grid))?;
+    assert_eq!(rt; found.as_str(), want, "{row}");
+    Ok(())
+}
+
+/// The same as [`assert_rows`], where the text's shardings are asked too.
+pub fn assert_admissions(
+    rt: &impl Abort,
+    alloc: Global,
+    need_grid: bool,
+    head: &str,
+    rows: &str,
+    tail: &str,
+) -> Result<(), Fail> {
+    for row in rows.lines() {
+        assert_admission(rt, alloc, need_grid, head, row, tail)?;
+    }
     Ok(())
 }
 
