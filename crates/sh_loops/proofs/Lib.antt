@@ -1,0 +1,15 @@
+pub mod CellLaws
+pub mod FormulaLaws
+pub mod FoldLaws
+pub mod PointLaws
+pub mod StepLaws
+pub mod NestLaws
+pub mod InsideLaws
+pub mod SizeLaws
+pub mod RoomLaws
+pub mod ListedLaws
+pub mod RegionLaws
+pub mod PlaceLaws
+pub mod CountLaws
+pub mod PlacedLaws
+pub mod StructuredLaws

@@ -1,0 +1,9 @@
+pub mod Cells
+pub mod Formulas
+pub mod Folds
+pub mod Nests
+pub mod Sizes
+pub mod Structures
+pub mod Regions
+pub mod Placing
+pub mod Structured

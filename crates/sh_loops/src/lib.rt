@@ -1,0 +1,21 @@
+//! Structured operations, computed: a nest of loops over the cells of the operands, whose step
+//! copies, adds a product or runs a region. The definitions stand in `sh_sem`.
+#![tactic(auto)]
+
+mod formulas;
+mod loops;
+mod nests;
+mod operands;
+mod placing;
+mod points;
+mod regions;
+mod sizes;
+mod steps;
+mod structures;
+mod types;
+
+pub use formulas::Formula;
+pub use loops::natural;
+pub use operands::{cells_of, count_of, made, shape_of};
+pub use structures::structured_op;
+pub use types::{dims_of, width_of};
