@@ -41,8 +41,7 @@ fn constant_of(contents: &Contents) -> Option<Cell>
 }
 
 /// What an operation does.
-#[tactic(auto, unfolding(sh_sem::specs::Region::body_cell, crate::specs::Regions::work_cell))]
-#[tactic(unfolding(crate::specs::Placing::TakesBody, crate::specs::Regions::TakesWork))]
+#[tactic(auto, unfolding(sh_sem::specs::Region::body_cell, crate::specs::Regions::work_cell, crate::specs::Placing::TakesBody, crate::specs::Regions::TakesWork))]
 pub(crate) fn work_of(kind: &BodyKind, result_type: &ValueType) -> RegionWork
     ensures takes { (cells : List Cell) → TakesBody kind.now result_type.now cells
         → TakesWork result cells }
