@@ -1,7 +1,5 @@
-pub mod Cells
-pub mod Formulas
-pub mod Folds
-pub mod Nests
-pub mod Sizes
-pub mod Structures
-pub mod Regions
+pub mod Cuts
+pub mod Slices
+pub mod Rules
+pub mod Shapes
+pub mod Values

@@ -1,13 +1,13 @@
 ghost use Rattle.std.specs.Prelude.{◌≡◌, ◌≤◌, Some, [], slice_get, IfOk};
 ghost use Rattle.sh_base.specs.declared.numbers.Cell.TheVariants.{Undef};
 ghost use Rattle.sh_base.specs.Shape.{cell_count, max_cells};
-ghost use Rattle.sh_eval.specs.Cells.{HoldsCellsOf, cells_by, constant_value};
+ghost use Rattle.sh_loops.specs.Cells.{HoldsCellsOf, cells_by, constant_value};
 ghost use Rattle.sh_sem.specs.Given.{built_of, gives_constant};
 ghost use Rattle.sh_sem.specs.Scalars.{constant_cell, held_cell};
 
-use crate::operands::{count_of, made};
 use sh_base::{Cell, Cells, Items, Mem, Shape, Width};
 use sh_ir::{Constant, Contents};
+use sh_loops::{count_of, made};
 use sh_tensor::Tensor;
 use std::alloc::Global;
 

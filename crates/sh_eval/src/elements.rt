@@ -1,7 +1,7 @@
 ghost use Rattle.std.specs.Prelude.{◌≡◌, ◌∷◌, [], All, IfOk, IfSome, length};
 ghost use Rattle.sh_base.specs.Cells.{IsCellOf};
-ghost use Rattle.sh_eval.specs.Cells.{cells_by};
-ghost use Rattle.sh_eval.specs.Formulas.{
+ghost use Rattle.sh_loops.specs.Cells.{cells_by};
+ghost use Rattle.sh_loops.specs.Formulas.{
   CanApply,
   WorksOn,
   formula_value,
@@ -11,9 +11,8 @@ ghost use Rattle.sh_eval.specs.Formulas.{
   result_width,
 };
 
-use crate::formulas::Formula;
-use crate::operands::{cells_of, made, shape_of};
 use sh_base::{Cell, Cells, Items, Mem};
+use sh_loops::{Formula, cells_of, made, shape_of};
 use sh_tensor::Tensor;
 use std::alloc::Global;
 

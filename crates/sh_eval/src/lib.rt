@@ -3,21 +3,20 @@
 #![tactic(auto)]
 
 mod constants;
+mod creators;
 mod elements;
-mod formulas;
-mod loops;
-mod nests;
-mod operands;
-mod placing;
-mod points;
-mod regions;
+mod layouts;
+mod pieces;
+mod reading;
+mod reshapes;
+mod rules;
 mod shapes;
-mod sizes;
-mod steps;
+mod slices;
 #[cfg(test)]
 mod tests;
-mod types;
+mod typing;
+mod values;
 
 pub use constants::{constant, undefined};
 pub use elements::{element_of_one, element_of_three, element_of_two};
-pub use formulas::Formula;
+pub use sh_loops::Formula;

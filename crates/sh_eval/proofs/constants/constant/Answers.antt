@@ -4,9 +4,9 @@ use Rattle.sh_base.proofs.ShapeLaws.{flat_of-unflat_of}
 use Rattle.std.specs.Prelude.{option_map}
 use Rattle.sh_sem.specs.Given.{gives_constant}
 use Rattle.sh_sem.specs.Scalars.{constant_cell}
-use Rattle.sh_eval.specs.Cells.{cells_by}
-use Rattle.sh_eval.proofs.CellLaws.{built_by, cells_by-same, constant_fits, fitting_by}
-use Rattle.sh_eval.proofs.FormulaLaws.{counted_by}
+use Rattle.sh_loops.specs.Cells.{cells_by}
+use Rattle.sh_loops.proofs.CellLaws.{built_by, cells_by-same, constant_fits, fitting_by}
+use Rattle.sh_loops.proofs.FormulaLaws.{counted_by}
 use Rattle.sh_eval.proofs.constants.constant.Goals as goal
 
 pub made-requires-clause-counted : goal.made-requires-clause-counted

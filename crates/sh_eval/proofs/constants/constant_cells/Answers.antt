@@ -1,7 +1,7 @@
 use Rattle.std.proofs.Common.{Some, ap, sym, ◌∙◌}
 use Rattle.sh_sem.specs.Scalars.{constant_cell}
-use Rattle.sh_eval.specs.Cells.{cells_by}
-use Rattle.sh_eval.proofs.CellLaws.{from_none_by, none_by}
+use Rattle.sh_loops.specs.Cells.{cells_by}
+use Rattle.sh_loops.proofs.CellLaws.{from_none_by, none_by}
 use Rattle.sh_eval.proofs.constants.constant_cells.Goals as goal
 
 pub returns-in-Broken : goal.returns-in-Broken

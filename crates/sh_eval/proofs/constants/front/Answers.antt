@@ -1,5 +1,5 @@
 use Rattle.std.proofs.Common.{Some, ap, sym, ◌∙◌}
-use Rattle.sh_eval.proofs.CellLaws.{few_by, front_by}
+use Rattle.sh_loops.proofs.CellLaws.{few_by, front_by}
 use Rattle.sh_eval.proofs.constants.front.Goals as goal
 
 pub returns-then-cells-count : goal.returns-then-cells-count

@@ -1,5 +1,5 @@
 use Rattle.std.proofs.Common.{Some, ap, sym, ◌∙◌}
-use Rattle.sh_eval.proofs.CellLaws.{repeated_by}
+use Rattle.sh_loops.proofs.CellLaws.{repeated_by}
 use Rattle.sh_eval.proofs.constants.repeated.Goals as goal
 
 pub returns : goal.returns

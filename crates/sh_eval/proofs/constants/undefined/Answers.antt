@@ -2,9 +2,9 @@ use Rattle.std.proofs.Common.{Some, ap, sym, ◌∙◌}
 use Rattle.sh_base.specs.Shape.{cell_count}
 use Rattle.sh_base.specs.declared.numbers.Cell.TheVariants.{Undef}
 use Rattle.std.specs.Prelude.{option_map}
-use Rattle.sh_eval.specs.Cells.{cells_by}
-use Rattle.sh_eval.proofs.CellLaws.{built_by, fitting_by, undefined_fits}
-use Rattle.sh_eval.proofs.FormulaLaws.{counted_by}
+use Rattle.sh_loops.specs.Cells.{cells_by}
+use Rattle.sh_loops.proofs.CellLaws.{built_by, fitting_by, undefined_fits}
+use Rattle.sh_loops.proofs.FormulaLaws.{counted_by}
 use Rattle.sh_eval.proofs.constants.undefined.Goals as goal
 
 pub made-requires-clause-counted : goal.made-requires-clause-counted

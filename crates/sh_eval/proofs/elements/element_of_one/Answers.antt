@@ -3,9 +3,9 @@ use Rattle.std.specs.List.{All}
 use Rattle.sh_base.specs.declared.numbers.Cell.{Cell}
 use Rattle.sh_base.specs.Cells.{IsCellOf}
 use Rattle.sh_base.specs.Shape.{cell_count}
-use Rattle.sh_eval.specs.Cells.{cells_by}
-use Rattle.sh_eval.specs.Formulas.{formula_at, formula_of}
-use Rattle.sh_eval.proofs.FormulaLaws.{cells_made, counted_by}
+use Rattle.sh_loops.specs.Cells.{cells_by}
+use Rattle.sh_loops.specs.Formulas.{formula_at, formula_of}
+use Rattle.sh_loops.proofs.FormulaLaws.{cells_made, counted_by}
 use Rattle.sh_eval.proofs.elements.element_of_one.Goals as goal
 
 pub on_cells-requires-clause-first : goal.on_cells-requires-clause-first

@@ -1,7 +1,7 @@
 use Rattle.std.proofs.Common.{◌≡◌, ◌∷◌, [], All, Some}
 use Rattle.sh_base.specs.Cells.{IsCellOf}
-use Rattle.sh_eval.specs.Cells.{cells_by}
-use Rattle.sh_eval.specs.Formulas.{formula_at, formula_of, result_width}
+use Rattle.sh_loops.specs.Cells.{cells_by}
+use Rattle.sh_loops.specs.Formulas.{formula_at, formula_of, result_width}
 use Rattle.sh_eval.proofs.elements.on_cells.Given as goal
 
 abbrev pub invariant-loop-at : goal.invariant-loop-at

@@ -1,9 +1,9 @@
 use Rattle.std.proofs.Common.{◌∷◌, [], sym, ◌∙◌, arith, length}
 use Rattle.std.proofs.lemmas.List.Elements.{All-push}
 use Rattle.sh_base.specs.Cells.{IsCellOf}
-use Rattle.sh_eval.specs.Formulas.{formula_at, formula_of, result_width}
-use Rattle.sh_eval.proofs.CellLaws.{none_so_far, one_pushed, stuck_by}
-use Rattle.sh_eval.proofs.FormulaLaws.{of_two_at}
+use Rattle.sh_loops.specs.Formulas.{formula_at, formula_of, result_width}
+use Rattle.sh_loops.proofs.CellLaws.{none_so_far, one_pushed, stuck_by}
+use Rattle.sh_loops.proofs.FormulaLaws.{of_two_at}
 use Rattle.sh_eval.proofs.elements.on_pairs.Goals as goal
 
 pub loop-at-init : goal.loop-at-init
