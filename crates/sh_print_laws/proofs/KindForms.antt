@@ -1,4 +1,4 @@
--- The right side of each kind of operation that has neither a literal nor a region.
+-- The right side of each kind of operation that has no region.
 use Rattle.std.proofs.Common.{◌≡◌, ◌+◌, ℕ, Bool, true, false, List, [], ◌∷◌, ◌++◌, length, get_or, refl, sym, subst, arith}
 use Rattle.std.specs.Prelude.{pos, IsTrue}
 use Rattle.std.specs.List.{list_all}
@@ -9,6 +9,7 @@ use Rattle.sh_ir.specs.declared.linalg_ops.InsOuts.{InsOuts}
 use Rattle.sh_grammar.specs.Lexemes.{Lexeme}
 use Rattle.sh_grammar.specs.declared.forms.Form.TheVariants as forms
 use Rattle.sh_ir.specs.Formed.{is_spelled, is_spelled_type}
+use Rattle.sh_ir.specs.Literals.{is_held}
 use Rattle.sh_ir.specs.Written.{all_numbers}
 use Rattle.sh_ir.specs.declared.operations.OpKind.{OpKind}
 use Rattle.sh_ir.specs.declared.operations.OpKind.TheVariants as op_kind
@@ -16,8 +17,9 @@ use Rattle.sh_ir.specs.declared.types.ValueType.{ValueType}
 use Rattle.sh_print.specs.Layout.{Piece}
 use Rattle.sh_print.specs.Tokens.{kind_pieces, operand, structured_pieces}
 use Rattle.sh_print.specs.Values.{Scope}
-use Rattle.sh_print_laws.specs.ReadsBack.{IsWritten, is_simple}
+use Rattle.sh_print_laws.specs.ReadsBack.{IsWritten, is_simple, is_whole}
 use Rattle.sh_print_laws.proofs.ArithForms.{binary_spelled, cast_spelled, compare_spelled, select_spelled}
+use Rattle.sh_print_laws.proofs.DenseForms.{literal_spelled, not_broken}
 use Rattle.sh_print_laws.proofs.LinalgForms.{broadcast_spelled, structured_spelled, structured_word, transpose_spelled}
 use Rattle.sh_print_laws.proofs.ShardForms.{all_gather_spelled, all_reduce_spelled, all_slice_spelled, all_to_all_spelled, call_spelled, join_spelled, pad_spelled, reduce_scatter_spelled, sharding_spelled, shard_spelled, shift_spelled, take_spelled, update_halo_spelled}
 use Rattle.sh_print_laws.proofs.TensorForms.{collapse_spelled, empty_spelled, expand_spelled, extract_spelled, insert_spelled}
@@ -85,7 +87,8 @@ module _ {numbered : State → Lexeme → ℕ} (N : Naming numbered) (scope : Sc
   pub kind_spelled : (k : OpKind) (xs : List ℕ) (t : ValueType) → is_simple k ≡ true → IsWritten k xs t
       → Gives N forms.RightSide (kind_pieces scope k xs t) (side k (ids_in N scope xs) t)
   unfolding kind_pieces made
-  kind_spelled (op_kind.Constant x) xs t simple w = absurd (let e : false ≡ true = simple in cc)
+  kind_spelled (op_kind.Constant x) xs t simple w = typed (op_kind.Constant x) (ids_in N scope xs) t _ w.result (given (op_kind.Constant x) xs [] _ (none_of xs w.operands)
+      (by_row N 0 refl refl (last_is N (literal_spelled N x (first is_held x [] w.held) (not_broken x (first is_whole x [] w.whole)) (first is_spelled_type x.value_type [] w.types)) refl)))
   kind_spelled (op_kind.Binary x) xs t simple w = given (op_kind.Binary x) xs _ t (two_of xs w.operands)
       (by_row N 0 refl refl (last_is N (binary_spelled N x (operand scope xs 0) (operand scope xs 1) t (first is_spelled_type t [] w.types)) refl))
   kind_spelled (op_kind.Compare x) xs t simple w = typed (op_kind.Compare x) (ids_in N scope xs) t _ w.result (given (op_kind.Compare x) xs _ _ (two_of xs w.operands)

@@ -5,8 +5,11 @@ pub mod Rows
 pub mod Decimals
 pub mod ListForms
 pub mod PlainForms
+pub mod NestedCells
 pub mod ValueForms
 pub mod ArithForms
+pub mod ConstantForms
+pub mod DenseForms
 pub mod TensorForms
 pub mod LinalgForms
 pub mod ShardForms

@@ -23,7 +23,7 @@ use Rattle.sh_print_laws.proofs.Rows.{IsForm, Naming, by_row_entered, end_row, t
 use Rattle.sh_print_laws.proofs.ValueForms.{id_of, ids_in}
 use Rattle.sh_print_laws.proofs.Walks.{State, enter, start}
 
--- an operation with neither a literal nor a region has no names of its own
+-- an operation with no region has no names of its own
 kind_kept : (r : ℕ → ℕ) (k : OpKind) → is_simple k ≡ true → renamed_kind r k ≡ k
 kind_kept r (op_kind.Constant x) simple = refl
 kind_kept r (op_kind.Binary x) simple = refl

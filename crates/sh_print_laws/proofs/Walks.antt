@@ -11,32 +11,7 @@ use Rattle.sh_grammar.specs.declared.forms.Form.{Form}
 use Rattle.sh_names.specs.declared.scopes.Scope.{Scope}
 use Rattle.sh_names.specs.Names.{Mention, at_start, behind, inside, mention_of}
 use Rattle.sh_parse.specs.Reads.{leaf, leaves, parts_of}
-
--- How far a reading has come.
-pub record State : Type 0 where
-  pub count : ℕ  -- how many tokens are read
-  pub scope : Scope
-  pub before : List Mention  -- what they mention
-
-abbrev pub start : State
-start = record { count = 0; scope = at_start; before = [] }
-
-abbrev pub step : Lexeme → State → State
-step t σ = record {
-  count = suc σ.count;
-  scope = behind t.kind σ.scope;
-  before = σ.before ++ mention_of σ.scope t ∷ [];
-}
-
--- a form begins
-abbrev pub enter : Form → State → State
-enter n σ = record σ { scope = record (inside σ.count n σ.scope) { opened = Some n } }
-
--- behind the trees
-abbrev pub past : State → Trees → State
-past σ nothing = σ
-past σ (token t after) = past (step t σ) after
-past σ (form n i below after) = past (past (enter n σ) below) after
+pub use Rattle.sh_parse.proofs.formed.Walks.{State, enter, past, start, step}
 
 -- ## Parts, by the number of each token where it stands
 

@@ -1,5 +1,5 @@
 -- When printed pieces are read as a part, whatever their places and the numbers of values are.
-use Rattle.std.specs.Prelude.{◌≡◌, ℕ, Bool, true, false, List, [], ◌∷◌, map, IsTrue}
+use Rattle.std.specs.Prelude.{◌≡◌, ℕ, Bool, true, false, not, List, [], ◌∷◌, map, IsTrue}
 use Rattle.std.specs.List.{list_all}
 use Rattle.sh_alike.specs.Renamed.{renamed_op}
 use Rattle.sh_build.specs.declared.parts.Part.{Part}
@@ -11,7 +11,9 @@ use Rattle.sh_grammar.specs.declared.forms.Form.{Form}
 use Rattle.sh_grammar.specs.declared.forms.Form.TheVariants.{Operation}
 use Rattle.sh_grammar.specs.declared.symbols.Symbol.TheVariants as symbol
 use Rattle.sh_ir.specs.Formed.{OperandsFit, ResultFits, is_spelled, is_spelled_type, types_in}
+use Rattle.sh_ir.specs.Literals.{is_broken, is_held}
 use Rattle.sh_ir.specs.Written.{written_by}
+use Rattle.sh_ir.specs.declared.arith_ops.Constant as constant
 use Rattle.sh_ir.specs.declared.operations.Op.{Op}
 use Rattle.sh_ir.specs.declared.operations.OpKind.{OpKind}
 use Rattle.sh_ir.specs.declared.operations.OpKind.TheVariants.{Constant, Binary, Compare, Select, Cast, Empty, ExtractSlice, InsertSlice, CollapseShape, ExpandShape, Fill, Matmul, BatchMatmul, Matvec, Vecmat, Dot, Conv1d, Conv2d, Transpose, Broadcast, Reduce, Generic, Sharding, Shard, AllGather, AllSlice, AllReduce, ReduceScatter, AllToAll, Shift, UpdateHalo, Take, Pad, Join, Call, Return}
@@ -48,9 +50,9 @@ pub record IsOperationRead (ts : List Lexeme) (number : List ℕ → ℕ) (scope
   pub stands : StandFor ts number Operation (part.Op read)
   pub same : renamed_op (λ id. id) read ≡ renamed_op (by_names number scope) op
 
--- an operation of a function that has neither a literal nor a region, and isn't the return
+-- an operation of a function that has no region, and isn't the return
 abbrev pub is_simple : OpKind → Bool
-is_simple (Constant x) = false
+is_simple (Constant x) = true
 is_simple (Binary x) = true
 is_simple (Compare x) = true
 is_simple (Select x) = true
@@ -87,6 +89,10 @@ is_simple (Join x) = true
 is_simple (Call x) = true
 is_simple (Return x) = false
 
+-- a literal fits its type
+abbrev pub is_whole : constant.Constant → Bool
+is_whole c = not (is_broken c.contents)
+
 -- The operands, the type of the value and the rest of the operation's text are such as a text can
 -- write.
 pub record IsWritten (k : OpKind) (xs : List ℕ) (t : ValueType) : Type 0 where
@@ -94,3 +100,5 @@ pub record IsWritten (k : OpKind) (xs : List ℕ) (t : ValueType) : Type 0 where
   pub numbers : IsTrue (list_all is_spelled (written_by k).numbers)
   pub types : IsTrue (list_all is_spelled_type (types_in (written_by k) t))
   pub result : ResultFits (written_by k).result t
+  pub held : IsTrue (list_all is_held (written_by k).constants)
+  pub whole : IsTrue (list_all is_whole (written_by k).constants)

@@ -27,7 +27,7 @@ pub fn types_read_back()
         → ReadBack (type_pieces t) number TypeForm (type_part t) }
 {}
 
-/// The right side of an operation with neither a literal nor a region is read back as it is, with
+/// The right side of an operation with no region is read back as it is, with
 /// the numbers of the names that its operands have in the text.
 pub fn right_sides_read_back()
     ensures { (number : List ℕ → ℕ) (scope : Scope) (k : OpKind) (xs : List ℕ) (t : ValueType)
