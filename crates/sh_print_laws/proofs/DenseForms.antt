@@ -4,7 +4,7 @@ use Rattle.std.specs.Prelude.{IsTrue}
 use Rattle.std.specs.List.{AllByRecursion, list_all, list_any}
 use Rattle.std.specs.Option.{option_map_or}
 use Rattle.std.proofs.Math.Dec.{eqb-suc-zero}
-use Rattle.std.proofs.lemmas.Bool.{eqb-true, eqb-false, eq-eqb}
+use Rattle.std.proofs.lemmas.Bool.{eqb-true, eq-eqb, or_parts, or_right}
 use Rattle.sh_base.specs.Cells.{bits_of}
 use Rattle.sh_base.specs.declared.numbers.Cell.{Cell}
 use Rattle.sh_base.specs.declared.numbers.Cell.TheVariants.{Undef, Val}
@@ -55,14 +55,6 @@ record AreCounted (dims : List Dim) (count : ℕ) : Type 0 where
   pub size : size_of (map extent_of dims) ≡ count
   pub positive : ArePositive (map extent_of dims)
   pub fit : are_extents dims (map extent_of dims) ≡ true
-
-or_parts : (a b : Bool) → (a || b) ≡ false → (a ≡ false) × (b ≡ false)
-or_parts false b e = (refl, e)
-or_parts true b e = absurd (let no : true ≡ false = e in cc)
-
-or_second : (a b : Bool) → b ≡ true → (a || b) ≡ true
-or_second true b e = refl
-or_second false b e = e
 
 not_zero : (n : ℕ) → nat_eq n 0 ≡ false → 0 < n
 not_zero zero h = absurd (let e : true ≡ false = h in cc)
@@ -152,7 +144,7 @@ contents_back t (c ∷ []) h =
 contents_back t (c ∷ d ∷ cells) h =
     let both = and_parts (fills t.dims (c ∷ d ∷ cells)) (list_all (is_literal_cell t.width) (c ∷ d ∷ cells)) h in
     let all = all_cells t.dims c d cells both.0 in
-    let fit : fills_or_fits t.dims (map extent_of t.dims) ≡ true = or_second (nat_eq (length (map extent_of t.dims)) 0) (are_extents t.dims (map extent_of t.dims)) all.counted.fit in
+    let fit : fills_or_fits t.dims (map extent_of t.dims) ≡ true = or_right (nat_eq (length (map extent_of t.dims)) 0) (are_extents t.dims (map extent_of t.dims)) all.counted.fit in
     ap (λ f. held t.dims f (cells_of t.width (map (element_of t.width) (c ∷ d ∷ cells)))) fit
     ∙ rw (cells_back t.width (c ∷ d ∷ cells) both.1, all.some, all.differ) refl
 

@@ -30,22 +30,22 @@ use Rattle.sh_print_laws.proofs.Walks.{State}
 
 -- ## Operands by their places
 
-none_of : (xs : List ℕ) → length xs ≡ 0 + 0 → xs ≡ []
+pub none_of : (xs : List ℕ) → length xs ≡ 0 + 0 → xs ≡ []
 none_of [] h = refl
 none_of (x ∷ xs) h = absurd (omega arith)
 
-one_of : (xs : List ℕ) → length xs ≡ 1 + 0 → xs ≡ get_or xs 0 0 ∷ []
+pub one_of : (xs : List ℕ) → length xs ≡ 1 + 0 → xs ≡ get_or xs 0 0 ∷ []
 one_of [] h = absurd (omega arith)
 one_of (x ∷ []) h = refl
 one_of (x ∷ y ∷ xs) h = absurd (omega arith)
 
-two_of : (xs : List ℕ) → length xs ≡ 2 + 0 → xs ≡ get_or xs 0 0 ∷ get_or xs 1 0 ∷ []
+pub two_of : (xs : List ℕ) → length xs ≡ 2 + 0 → xs ≡ get_or xs 0 0 ∷ get_or xs 1 0 ∷ []
 two_of [] h = absurd (omega arith)
 two_of (x ∷ []) h = absurd (omega arith)
 two_of (x ∷ y ∷ []) h = refl
 two_of (x ∷ y ∷ z ∷ xs) h = absurd (omega arith)
 
-three_of : (xs : List ℕ) → length xs ≡ 3 + 0 → xs ≡ get_or xs 0 0 ∷ get_or xs 1 0 ∷ get_or xs 2 0 ∷ []
+pub three_of : (xs : List ℕ) → length xs ≡ 3 + 0 → xs ≡ get_or xs 0 0 ∷ get_or xs 1 0 ∷ get_or xs 2 0 ∷ []
 three_of [] h = absurd (omega arith)
 three_of (x ∷ []) h = absurd (omega arith)
 three_of (x ∷ y ∷ []) h = absurd (omega arith)
@@ -58,10 +58,10 @@ all_of n m xs h = omega arith
 -- ## Tests of short lists
 
 module _ {X : Type 0} (p : X → Bool) where
-  first : (x : X) (xs : List X) → IsTrue (list_all p (x ∷ xs)) → IsTrue (p x)
+  pub first : (x : X) (xs : List X) → IsTrue (list_all p (x ∷ xs)) → IsTrue (p x)
   first x xs h = (and_parts (p x) (list_all p xs) h).0
 
-  second : (x y : X) (xs : List X) → IsTrue (list_all p (x ∷ y ∷ xs)) → IsTrue (p y)
+  pub second : (x y : X) (xs : List X) → IsTrue (list_all p (x ∷ y ∷ xs)) → IsTrue (p y)
   second x y xs h = first y xs (and_parts (p x) (list_all p (y ∷ xs)) h).1
 
 module _ {numbered : State → Lexeme → ℕ} (N : Naming numbered) (scope : Scope) where

@@ -14,5 +14,9 @@ pub mod TensorForms
 pub mod LinalgForms
 pub mod ShardForms
 pub mod KindForms
+pub mod Standing
+pub mod RegionSteps
+pub mod BodyForms
 pub mod ReadingBack
 pub mod OperationForms
+pub mod RegionForms

@@ -71,12 +71,12 @@ module _ {numbered : State → Lexeme → ℕ} (N : Naming numbered) (scope : Sc
       → ((σ : State) → N.Holds σ → N.Holds (enter forms.Operation σ))
       → IsForm N forms.Operation (op_pieces scope (op_of k xs (Some id) t place)) (IsOp (op_of k (ids_in N scope xs) (Some (id_of N (name_in scope id))) t place))
   unfolding made op_pieces defined
-  operation_spelled id k xs t place simple w enters = by_row_entered N 0 refl enters (then_value N (λ p. then_token N keyword.the-equals (λ q i.
+  operation_spelled id k xs t place simple w enters = by_row_entered 0 refl enters (then_value N (λ p. then_token N keyword.the-equals (λ q i.
       then_is N (kind_spelled N scope k xs t simple w) (then_line_end N (end_row N (p, refl))))))
 
 -- ## Read back, with numbers by texts
 
-map_same : (xs : List ℕ) → map (λ id. id) xs ≡ xs
+pub map_same : (xs : List ℕ) → map (λ id. id) xs ≡ xs
 map_same [] = refl
 map_same (x ∷ xs) = ap (λ more. x ∷ more) (map_same xs)
 

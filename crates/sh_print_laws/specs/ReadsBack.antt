@@ -12,7 +12,7 @@ use Rattle.sh_grammar.specs.declared.forms.Form.TheVariants.{Operation}
 use Rattle.sh_grammar.specs.declared.symbols.Symbol.TheVariants as symbol
 use Rattle.sh_ir.specs.Formed.{OperandsFit, ResultFits, is_spelled, is_spelled_type, types_in}
 use Rattle.sh_ir.specs.Literals.{is_broken, is_held}
-use Rattle.sh_ir.specs.Written.{written_by}
+use Rattle.sh_ir.specs.Written.{Written, written_by}
 use Rattle.sh_ir.specs.declared.arith_ops.Constant as constant
 use Rattle.sh_ir.specs.declared.operations.Op.{Op}
 use Rattle.sh_ir.specs.declared.operations.OpKind.{OpKind}
@@ -93,12 +93,15 @@ is_simple (Return x) = false
 abbrev pub is_whole : constant.Constant → Bool
 is_whole c = not (is_broken c.contents)
 
--- The operands, the type of the value and the rest of the operation's text are such as a text can
+-- The operands, the type of the value and the rest of what an operation writes are such as a text can
 -- write.
-pub record IsWritten (k : OpKind) (xs : List ℕ) (t : ValueType) : Type 0 where
-  pub operands : OperandsFit (written_by k) xs
-  pub numbers : IsTrue (list_all is_spelled (written_by k).numbers)
-  pub types : IsTrue (list_all is_spelled_type (types_in (written_by k) t))
-  pub result : ResultFits (written_by k).result t
-  pub held : IsTrue (list_all is_held (written_by k).constants)
-  pub whole : IsTrue (list_all is_whole (written_by k).constants)
+pub record AreWritten (x : Written) (xs : List ℕ) (t : ValueType) : Type 0 where
+  pub operands : OperandsFit x xs
+  pub numbers : IsTrue (list_all is_spelled x.numbers)
+  pub types : IsTrue (list_all is_spelled_type (types_in x t))
+  pub result : ResultFits x.result t
+  pub held : IsTrue (list_all is_held x.constants)
+  pub whole : IsTrue (list_all is_whole x.constants)
+
+abbrev pub IsWritten : OpKind → List ℕ → ValueType → Type 0
+IsWritten k xs t = AreWritten (written_by k) xs t
