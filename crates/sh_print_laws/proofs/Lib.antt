@@ -19,4 +19,7 @@ pub mod RegionSteps
 pub mod BodyForms
 pub mod ReadingBack
 pub mod OperationForms
+pub mod Captures
 pub mod RegionForms
+pub mod MapForms
+pub mod LoopForms

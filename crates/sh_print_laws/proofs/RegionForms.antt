@@ -52,7 +52,7 @@ among_inner (x ∷ xs) text h outer = elim (cases_Bool (same_text x text)) [
   | inr e ↦ rw e (among_inner xs text h.1 outer)
 ]
 
-same_self : (x : List ℕ) → same_text x x ≡ true
+pub same_self : (x : List ℕ) → same_text x x ≡ true
 same_self [] = refl
 same_self (b ∷ x) = rw (eq-eqb b b refl) (same_self x)
 
@@ -69,6 +69,11 @@ each_more (x ∷ xs) y h g = (h.0, each_more xs y h.1 g)
 pub record Named (ids : List ℕ) (text_of : ℕ → List ℕ) : Type 0 where
   pub own : (id : ℕ) → is_among ids id ≡ true → is_inner (text_of id) ≡ true
   pub outer : (id : ℕ) → is_among ids id ≡ false → is_inner (text_of id) ≡ false
+
+-- An operation of a region that defines these names is such as a text can write.
+pub record StepFits (ids : List ℕ) (x : BodyOp) : Type 0 where
+  pub written : AreWritten (written_in_body x.kind) x.operands x.result
+  pub defined : is_among ids x.defines ≡ true
 
 module _ (v : Owned → ℕ) (unit op : ℕ) (own outer : Scope) (ids : List ℕ) where
   -- how a name is printed, and the number that it has
@@ -131,11 +136,7 @@ module _ (v : Owned → ℕ) (unit op : ℕ) (own outer : Scope) (ids : List ℕ
   abbrev pub IsBodyOp : BodyOp → Part → Type 0
   IsBodyOp x p = (place : Place) × (p ≡ part.BodyOp (record x { operands = map read_in x.operands; defines = read_in x.defines; place = place }))
 
-  pub record StepFits (x : BodyOp) : Type 0 where
-    pub written : AreWritten (written_in_body x.kind) x.operands x.result
-    pub defined : is_among ids x.defines ≡ true
-
-  module _ (named : Named ids text_in) (s : Spot) (known : List ℕ) (c : Covers s known) (x : BodyOp) (fits : StepFits x) (uses : AreOuter (outside known x.operands)) where
+  module _ (named : Named ids text_in) (s : Spot) (known : List ℕ) (c : Covers s known) (x : BodyOp) (fits : StepFits ids x) (uses : AreOuter (outside known x.operands)) where
     defined_number : own_number v s c.at (text_in x.defines) ≡ read_in x.defines
     defined_number = rw (c.of_unit, c.of_op, fits.defined) refl
 
@@ -194,26 +195,28 @@ module _ (v : Owned → ℕ) (unit op : ℕ) (own outer : Scope) (ids : List ℕ
     pub plain : (σ : State) (s : Spot) → Standing s σ → Standing s (enter body σ)
     pub more : (one rest : Part) → made body 0 (one ∷ rest ∷ []) ≡ part.BodyTail (record (tail_in rest) { ops = before (body_op_in one) (tail_in rest).ops })
     pub last : (yields : Part) → made body 1 (yields ∷ []) ≡ yields
-    pub step : Named ids text_in → (s : Spot) (known : List ℕ) → Covers s known → (x : BodyOp) → StepFits x → AreOuter (outside known x.operands) → Plain x
+    pub step : Named ids text_in → (s : Spot) (known : List ℕ) → Covers s known → (x : BodyOp) → StepFits ids x → AreOuter (outside known x.operands) → Plain x
         → FormTo (num_by v) (Standing s) (Standing (with_own s (text_in x.defines))) operation (body_op_pieces own outer x) (IsBodyOp x)
 
   joined : (x : BodyOp) (ops : List BodyOp) (y : ℕ) (w : Width) (one rest : Part) → IsBodyOp x one → IsTail ops y w rest
       → IsTail (x ∷ ops) y w (part.BodyTail (record (tail_in rest) { ops = before (body_op_in one) (tail_in rest).ops }))
   joined x ops y w one rest o t =
-      let read : BodyOp = record x { operands = map read_in x.operands; defines = read_in x.defines; place = o.0 } in
-      (read ∷ t.0, t.1,
+      let read : BodyOp = record x { operands = map read_in x.operands; defines = read_in x.defines; place = o.0 } in (
+        read ∷ t.0,
+        t.1,
         ap (λ p. part.BodyTail (record (tail_in rest) { ops = before (body_op_in p) (tail_in rest).ops })) o.1
-        ∙ ap (λ p. part.BodyTail (record (tail_in p) { ops = read ∷ (tail_in p).ops })) t.2,
-        rw (map_same (map read_in x.operands), t.3) refl)
+            ∙ ap (λ p. part.BodyTail (record (tail_in p) { ops = read ∷ (tail_in p).ops })) t.2,
+        rw (map_same (map read_in x.operands), t.3) refl,
+      )
 
   pub region_spelled : {body operation : Form} {Plain : BodyOp → Type 0} → IsRegionForm body operation Plain → Named ids text_in
-      → (ops : List BodyOp) (s : Spot) (known : List ℕ) → Covers s known → (y : ℕ) (w : Width) → AllByRecursion StepFits ops → AllByRecursion Plain ops
+      → (ops : List BodyOp) (s : Spot) (known : List ℕ) → Covers s known → (y : ℕ) (w : Width) → AllByRecursion (StepFits ids) ops → AllByRecursion Plain ops
       → AreOuter (outer_uses known ops y)
       → FormTo (num_by v) (Standing s) (Standing (behind_ops s ops)) body (flat_map (body_op_pieces own outer) ops ++ yield_pieces (name_inside own outer y) w) (IsTail ops y w)
   region_spelled form named [] s known c y w fits plain uses = let N = naming v s c.at in
       by_row_entered 1 (ap (λ rows. slice_get rows 1) form.rows) (λ σ h. form.plain σ s h) (last_form N (yield_spelled named s known c y w uses)
       (λ p is. subst (IsTail [] y w) (sym (form.last p)) is))
-  region_spelled {body = body} form named (x ∷ ops) s known c y w fits plain uses = let N = naming v s c.at in
+  region_spelled form named (x ∷ ops) s known c y w fits plain uses = let N = naming v s c.at in
       let next : Spot = with_own s (text_in x.defines) in
       by_row_entered 0 (ap (λ rows. slice_get rows 0) form.rows) (λ σ h. form.plain σ s h)
       (row_by N (sym (append_assoc (body_op_pieces own outer x) (flat_map (body_op_pieces own outer) ops) (yield_pieces (name_inside own outer y) w)))

@@ -130,19 +130,21 @@ module _ (v : Owned → ℕ) (s : Spot) (none : s.at ≡ role.Nothing) where
       let is_named : num_by v σ t ≡ own_number text =
       ap (λ r. first_by v (names_by_role r σ.before m)) h.own ∙ ap (λ u. v (owned u (Some σ.scope.op) text)) h.func ∙ ap (λ o. v (owned s.func (Some o) text)) h.op in
       let owns_it : (other : List ℕ) → owns s.op other m ≡ same_text text other = λ other.
-      ap (λ r. is_own r && nat_eq σ.scope.op s.op && same_text text other) h.own ∙ ap (λ b. true && b && same_text text other) (eq-eqb σ.scope.op s.op h.op) in
-      (is_named, record {
-        func = h.func;
-        op = h.op;
-        inside = h.inside;
-        at = h.at ∙ sym none;
-        roles = λ j. refl;
-        mentioned = mentioned_by s (with_own s text) σ t h.mentioned
-            (ap (λ r. keeps_rules r text (reverse σ.before)) h.own)
-            (λ other. ap (λ r. fits_behind r text other (s.fit other)) h.own)
-            (λ other. ap (λ b. among s.all other || b) (owns_it other ∙ sym (or-false (same_text text other))) ∙ sym (list_any-append (λ x. same_text x other) s.all (text ∷ []))) refl;
-        defined = defined_still σ t s.all h.defined;
-      })
+      ap (λ r. is_own r && nat_eq σ.scope.op s.op && same_text text other) h.own ∙ ap (λ b. true && b && same_text text other) (eq-eqb σ.scope.op s.op h.op) in (
+        is_named,
+        record {
+          func = h.func;
+          op = h.op;
+          inside = h.inside;
+          at = h.at ∙ sym none;
+          roles = λ j. refl;
+          mentioned = mentioned_by s (with_own s text) σ t h.mentioned
+              (ap (λ r. keeps_rules r text (reverse σ.before)) h.own)
+              (λ other. ap (λ r. fits_behind r text other (s.fit other)) h.own)
+              (λ other. ap (λ b. among s.all other || b) (owns_it other ∙ sym (or-false (same_text text other))) ∙ sym (list_any-append (λ x. same_text x other) s.all (text ∷ []))) refl;
+          defined = defined_still σ t s.all h.defined;
+        },
+      )
 
   -- ## Block arguments
 

@@ -155,22 +155,30 @@ module _ {num : State → Lexeme → ℕ} {To : State → Type 0} where
     holds = r.holds;
   }
 
-  -- a name of this number, behind which the state is another
+  -- a token of this number, behind which the state is another
+  pub then_numbered : {From Next : State → Type 0} {c : ℕ} {k : TokenKind} {x : List ℕ} {id : ℕ} {α : List Symbol} {ps : List Piece} {V : List Part → Type 0}
+      → ((p : Place) → class_of (lexeme k x p) ≡ c)
+      → ((σ : State) (p : Place) → From σ → (num σ (lexeme k x p) ≡ id) × Next (step (lexeme k x p) σ))
+      → ((p : Place) → RowTo num Next To α ps (λ row. V (leaf [] (lexeme k x p) id ∷ row)))
+      → RowTo num From To (symbol.Class c ∷ α) (piece_token k x ∷ ps) V
+  then_numbered {k = k} {x = x} {V = V} is named rest _ σ (a_token {place = p} {ts = ts} more) h =
+      let it = named σ p h in
+      let r = rest p ts (step (lexeme k x p) σ) more it.1 in
+      one_token (lexeme k x p) ts σ (is p) (record {
+        trees = r.trees;
+        spells = r.spells;
+        takes = r.takes;
+        row = subst (λ id. V (leaf [] (lexeme k x p) id ∷ parts_at num (step (lexeme k x p) σ) r.trees)) (sym it.0) r.row;
+        holds = r.holds;
+      })
+
+  -- the name of a value
   pub then_named : {From Next : State → Type 0} {x : List ℕ} {id : ℕ} {α : List Symbol} {ps : List Piece} {V : List Part → Type 0}
       → ((σ : State) (p : Place) → From σ → (num σ (lexeme kind.Val x p) ≡ id) × Next (step (lexeme kind.Val x p) σ))
       → ((p : Place) → RowTo num Next To α ps (λ row. V (part.Mark (record { id = id; place = p }) ∷ row)))
       → RowTo num From To (symbol.Class 1 ∷ α) (piece_token kind.Val x ∷ ps) V
   unfolding class_of
-  then_named {x = x} {V = V} named rest _ σ (a_token {place = p} {ts = ts} more) h =
-      let it = named σ p h in
-      let r = rest p ts (step (lexeme kind.Val x p) σ) more it.1 in
-      one_token (lexeme kind.Val x p) ts σ refl (record {
-        trees = r.trees;
-        spells = r.spells;
-        takes = r.takes;
-        row = subst (λ id. V (part.Mark (record { id = id; place = p }) ∷ parts_at num (step (lexeme kind.Val x p) σ) r.trees)) (sym it.0) r.row;
-        holds = r.holds;
-      })
+  then_named named rest = then_numbered (λ p. refl) named rest
 
   -- a token that changes what is known
   pub then_step : {From Next : State → Type 0} {c : ℕ} {k : TokenKind} {x : List ℕ} {α : List Symbol} {ps : List Piece} {V : List Part → Type 0}

@@ -221,10 +221,22 @@ defined_still σ t defined h text =
     ∙ ap (λ b. among defined text || (b || false)) (not_defining σ.scope.op σ.scope.step text m (inr refl))
     ∙ or-false (among defined text)
 
+-- What is known of a state but what its tokens say.
+pub record Placed (s : Spot) (σ : State) : Type 0 where
+  pub func : σ.scope.func ≡ s.func
+  pub op : σ.scope.op ≡ s.op
+  pub inside : σ.scope.in_region ≡ s.inside
+  pub at : σ.scope.at ≡ s.at
+  pub mentioned : Mentioned s σ
+  pub defined : (text : List ℕ) → list_any (defines_by σ.scope.op σ.scope.step text) σ.before ≡ among s.defined text
+
+abbrev pub placed : (s : Spot) (σ : State) → Standing s σ → Placed s σ
+placed s σ h = record { func = h.func; op = h.op; inside = h.inside; at = h.at; mentioned = h.mentioned; defined = h.defined }
+
 -- a calm token that defines no name of a region
-pub stands_on : (s : Spot) (a : Role) (σ : State) (t : Lexeme) → is_calm (mention_of σ.scope t).role ≡ true → is_own (mention_of σ.scope t).role ≡ false
-    → at_behind t.kind s.at ≡ a → Standing s σ → Standing (record s { at = a }) (step t σ)
-stands_on s a σ t calm other at h =
+pub stands_behind : (s : Spot) (a : Role) (σ : State) (t : Lexeme) → is_calm (mention_of σ.scope t).role ≡ true → is_own (mention_of σ.scope t).role ≡ false
+    → at_behind t.kind s.at ≡ a → Placed s σ → Standing (record s { at = a }) (step t σ)
+stands_behind s a σ t calm other at h =
     let m : Mention = mention_of σ.scope t in
     let not_owned = λ (text : List ℕ). (let e : owns s.op text m ≡ false = rw other refl in e) in
     record {
@@ -238,6 +250,10 @@ stands_on s a σ t calm other at h =
           (λ text. ap (λ b. among s.all text || b) (not_owned text) ∙ or-false (among s.all text)) refl;
       defined = defined_still σ t s.defined h.defined;
     }
+
+pub stands_on : (s : Spot) (a : Role) (σ : State) (t : Lexeme) → is_calm (mention_of σ.scope t).role ≡ true → is_own (mention_of σ.scope t).role ≡ false
+    → at_behind t.kind s.at ≡ a → Standing s σ → Standing (record s { at = a }) (step t σ)
+stands_on s a σ t calm other at h = stands_behind s a σ t calm other at (placed s σ h)
 
 nothing_behind : (k : TokenKind) → at_behind k role.Nothing ≡ role.Nothing
 nothing_behind kind.At = refl
@@ -265,7 +281,7 @@ steps_past s t σ quiet same h =
 
 -- ## Where a form begins
 
-plain_inside : (k : ℕ) (n : Form) (s : Scope) → is_plain n ≡ true → inside k n s ≡ s
+pub plain_inside : (k : ℕ) (n : Form) (s : Scope) → is_plain n ≡ true → inside k n s ≡ s
 plain_inside k forms.Contents s h = absurd (let e : false ≡ true = h in cc)
 plain_inside k forms.Device s h = absurd (let e : false ≡ true = h in cc)
 plain_inside k forms.Func s h = absurd (let e : false ≡ true = h in cc)
