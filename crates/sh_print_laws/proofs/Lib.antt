@@ -22,4 +22,8 @@ pub mod OperationForms
 pub mod Captures
 pub mod RegionForms
 pub mod MapForms
+pub mod Renumbered
 pub mod LoopForms
+pub mod SideForms
+pub mod Counted
+pub mod Between

@@ -158,7 +158,7 @@ module _ (v : Owned → ℕ) (apart : (x y : Owned) → x.unit ≡ y.unit → v 
     ids : List ℕ
     ids = own_names body
 
-    reader_base : (id : ℕ) → is_among (own_names body) id ≡ false → reader body id ≡ base id
+    pub reader_base : (id : ℕ) → is_among (own_names body) id ≡ false → reader body id ≡ base id
     reader_base id out = rw (out, names.outside id out) refl
 
     regions_same : (a b : Bool) → (if a then Some op else None) ≡ (if b then Some op else None) → a ≡ b

@@ -24,7 +24,7 @@ use Rattle.sh_print_laws.proofs.ValueForms.{id_of, ids_in}
 use Rattle.sh_print_laws.proofs.Walks.{State, enter, start}
 
 -- an operation with no region has no names of its own
-kind_kept : (r : ℕ → ℕ) (k : OpKind) → is_simple k ≡ true → renamed_kind r k ≡ k
+pub kind_kept : (r : ℕ → ℕ) (k : OpKind) → is_simple k ≡ true → renamed_kind r k ≡ k
 kind_kept r (op_kind.Constant x) simple = refl
 kind_kept r (op_kind.Binary x) simple = refl
 kind_kept r (op_kind.Compare x) simple = refl
