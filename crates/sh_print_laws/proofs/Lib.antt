@@ -27,3 +27,4 @@ pub mod LoopForms
 pub mod SideForms
 pub mod Counted
 pub mod Between
+pub mod FunctionForms

@@ -81,6 +81,10 @@ view (op_kind.Reduce x) h = a_reduce x
 view (op_kind.Generic x) h = a_generic x
 view _ h = a_simple refl
 
+-- names that no region of the operation defines
+abbrev pub AreOutside : OpKind → List ℕ → Type 0
+AreOutside k names = MatchOption (written_by k).body ⊤ (λ body. AllByRecursion (λ id. is_among (own_names body) id ≡ false) names)
+
 module _ (v : Owned → ℕ) (apart : (x y : Owned) → x.unit ≡ y.unit → v x ≡ v y → x ≡ y) (fit : List ℕ → Bool) (unit op : ℕ) (scope : Scope) where
   abbrev IsRight : OpKind → List ℕ → ValueType → Part → Type 0
   IsRight k xs t p = IsSide v apart fit unit op scope k xs t p
@@ -121,10 +125,6 @@ module _ (v : Owned → ℕ) (apart : (x y : Owned) → x.unit ≡ y.unit → v 
 
   abbrev number_of : ℕ → ℕ
   number_of id = base v apart fit unit op scope id
-
-  -- names that no region of the operation defines
-  abbrev pub AreOutside : OpKind → List ℕ → Type 0
-  AreOutside k names = MatchOption (written_by k).body ⊤ (λ body. AllByRecursion (λ id. is_among (own_names body) id ≡ false) names)
 
   outside_read : (o : Option Body) → MatchOption o ⊤ (λ body. RegionNames scope body) → (xs : List ℕ) → MatchOption o ⊤ (λ body. AllByRecursion (λ id. is_among (own_names body) id ≡ false) xs)
       → map (option_map_or (λ body. reader v apart fit unit op scope body) o number_of) xs ≡ map number_of xs
