@@ -28,3 +28,5 @@ pub mod SideForms
 pub mod Counted
 pub mod Between
 pub mod FunctionForms
+pub mod Heads
+pub mod ItemForms
