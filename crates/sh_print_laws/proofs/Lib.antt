@@ -30,3 +30,4 @@ pub mod Between
 pub mod FunctionForms
 pub mod Heads
 pub mod ItemForms
+pub mod ModuleForms
