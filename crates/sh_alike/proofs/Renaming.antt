@@ -107,7 +107,7 @@ module _ (r s : ℕ → ℕ) where
   kind_agree (Call x) h = refl
   kind_agree (Return x) h = refl
 
-  op_agree : (op : Op) → Agree r s (region_names op.kind) → Agree r s (op.operands ++ option_to_list op.defines) → renamed_op r op ≡ renamed_op s op
+  pub op_agree : (op : Op) → Agree r s (region_names op.kind) → Agree r s (op.operands ++ option_to_list op.defines) → renamed_op r op ≡ renamed_op s op
   op_agree op inner outer =
       let kind = kind_agree op.kind inner in
       let operands = ids_agree op.operands (agree_front op.operands (option_to_list op.defines) outer) in
@@ -137,7 +137,7 @@ module _ (r s : ℕ → ℕ) where
       let rest = ops_agree ops (agree_behind r s (op_names op) _ outer) (agree_behind r s (region_names op.kind) _ regions) in
       rw (first, rest) refl
 
-  args_agree : (args : List Arg) → Agree r s (map (λ arg. arg.id) args) → map (renamed_arg r) args ≡ map (renamed_arg s) args
+  pub args_agree : (args : List Arg) → Agree r s (map (λ arg. arg.id) args) → map (renamed_arg r) args ≡ map (renamed_arg s) args
   args_agree [] h = refl
   args_agree (arg ∷ args) h = rw (h.0, args_agree args h.1) refl
 

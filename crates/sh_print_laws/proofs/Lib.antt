@@ -31,3 +31,4 @@ pub mod FunctionForms
 pub mod Heads
 pub mod ItemForms
 pub mod ModuleForms
+pub mod Owners
