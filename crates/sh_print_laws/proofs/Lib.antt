@@ -32,3 +32,4 @@ pub mod Heads
 pub mod ItemForms
 pub mod ModuleForms
 pub mod Owners
+pub mod Codes

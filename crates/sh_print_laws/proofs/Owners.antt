@@ -5,7 +5,7 @@ use Rattle.std.specs.List.{AllByRecursion, list_any}
 use Rattle.std.specs.Option.{option_map_or}
 use Rattle.std.proofs.lemmas.Bool.{cases_Bool, eqb-true, or_cases, or_left, or_right}
 use Rattle.sh_alike.proofs.Renaming.{args_agree, each_front, op_agree, op_names, region_names, regions_cons}
-use Rattle.sh_alike.specs.Alike.{AreAlikeFuncs, KeepsApart, names_in_use, names_of_body}
+use Rattle.sh_alike.specs.Alike.{AreAlike, AreAlikeEach, AreAlikeFuncs, KeepsApart, names_in_use, names_of_body}
 use Rattle.sh_alike.specs.Renamed.{placeless_func, renamed_arg, renamed_func, renamed_op}
 use Rattle.sh_ir.specs.Formed.{bodies_in, func_names}
 use Rattle.sh_ir.specs.Regions.{is_among, own_names}
@@ -14,6 +14,7 @@ use Rattle.sh_ir.specs.declared.bodies.Body.{Body}
 use Rattle.sh_ir.specs.declared.bodies.BodyOp.{BodyOp}
 use Rattle.sh_ir.specs.declared.functions.Arg.{Arg}
 use Rattle.sh_ir.specs.declared.functions.Func.{Func}
+use Rattle.sh_ir.specs.declared.modules.Module.{Module}
 use Rattle.sh_ir.specs.declared.operations.Op.{Op}
 use Rattle.sh_names.specs.Names.{Owned}
 use Rattle.sh_print.specs.Tokens.{op_pieces, scope_of, scope_of_body}
@@ -23,6 +24,7 @@ use Rattle.sh_print_laws.proofs.FunctionForms.{AreNumbered, number_in, read_ops}
 use Rattle.sh_print_laws.proofs.Heads.{anyone}
 use Rattle.sh_print_laws.proofs.ItemForms.{FuncRead}
 use Rattle.sh_print_laws.proofs.LoopForms.{RegionNames, base, reader, reader_base, reader_of, region_text}
+use Rattle.sh_print_laws.proofs.ModuleForms.{AreRead, CarriedRead, ModuleRead}
 use Rattle.sh_print_laws.proofs.Standing.{owned}
 
 -- the region of the operation defines the name
@@ -220,3 +222,92 @@ module _ (v : Owned → ℕ) (apart : (x y : Owned) → x.unit ≡ y.unit → v 
         by true false is its again = absurd (not_later k (written_by x.kind).body a (owner next ops b) (token_count (op_pieces scope x)) is names.0.some (owner_from ops next b) (rw (is, its) at e))
         by false true is its again = absurd (not_later k (written_by x.kind).body b (owner next ops a) (token_count (op_pieces scope x)) its names.0.some (owner_from ops next a) (sym (rw (is, its) at e)))
         by false false is its again = again next names.1 a b (used_later x ops a is h) (used_later x ops b its g) (rw (is, its) at e)
+
+  -- ## Functions
+
+  owner_unit : (ops : List Op) (k : ℕ) (id : ℕ) → (owner k ops id).unit ≡ unit
+  owner_unit [] k id = refl
+  owner_unit (x ∷ ops) k id = elim (cases_Bool (owns_in x id)) [
+    | inl e ↦ rw e (one_unit (written_by x.kind).body)
+    | inr e ↦ rw e (owner_unit ops (k + token_count (op_pieces scope x)) id)
+  ]
+    where
+      one_unit : (o : Option Body) → (region_owner k o id).unit ≡ unit
+      one_unit None = refl
+      one_unit (Some body) = refl
+
+  regions_used : (ops : List Op) → AllByRecursion (OpNames scope) ops → AllByRecursion (UsedBy ops) (flat_map names_of_body (bodies_in ops))
+  regions_used [] h = tt
+  regions_used (x ∷ ops) h = subst (AllByRecursion (UsedBy (x ∷ ops))) (sym (regions_cons x ops))
+      (each_append (UsedBy (x ∷ ops)) (region_names x.kind) (flat_map names_of_body (bodies_in ops))
+      (each_so (UsedAt x) (UsedBy (x ∷ ops)) (region_names x.kind) first (body_used (written_by x.kind).body h.0.regions))
+      (each_so (UsedBy ops) (UsedBy (x ∷ ops)) (flat_map names_of_body (bodies_in ops)) later (regions_used ops h.1)))
+    where
+      first : (a : ℕ) → UsedAt x a → UsedBy (x ∷ ops) a
+      first a (inl d) = inl d
+      first a (inr o) = inr (or_left (owns_in x a) (list_any (λ y. owns_in y a) ops) o)
+
+      later : (a : ℕ) → UsedBy ops a → UsedBy (x ∷ ops) a
+      later a (inl d) = inl d
+      later a (inr o) = inr (or_right (owns_in x a) (list_any (λ y. owns_in y a) ops) o)
+
+  operations_used : (ops : List Op) → AllByRecursion (OpNames scope) ops → AllByRecursion (IsDefined scope) (flat_map op_names ops)
+  operations_used [] h = tt
+  operations_used (x ∷ ops) h = each_append (IsDefined scope) (op_names x) (flat_map op_names ops) h.0.used (operations_used ops h.1)
+
+args_same : (args : List Arg) → map (renamed_arg (λ id. id)) args ≡ args
+args_same [] = refl
+args_same (arg ∷ args) = ap (λ xs. arg ∷ xs) (args_same args)
+
+module _ (v : Owned → ℕ) (apart : (x y : Owned) → x.unit ≡ y.unit → v x ≡ v y → x ≡ y) where
+  all_used : (f : Func) (unit : ℕ) → FuncNames f → AllByRecursion (UsedBy v apart unit (scope_of f) f.ops) (names_in_use f)
+  all_used f unit names =
+      let P : ℕ → Type 0 = UsedBy v apart unit (scope_of f) f.ops in
+      each_append P (func_names f) (flat_map names_of_body (bodies_in f.ops))
+      (each_so (IsDefined (scope_of f)) P (func_names f) (λ a d. inl d)
+      (each_append (IsDefined (scope_of f)) (map (λ arg. arg.id) f.args) (flat_map op_names f.ops) names.args (operations_used v apart unit (scope_of f) f.ops names.ops)))
+      (regions_used v apart unit (scope_of f) f.ops names.ops)
+
+  -- what is read of a function is alike, where its maps are numbered
+  pub func_alike : (f g : Func) → FuncNames f → FuncRead v apart (scope_of f) f g → AreNumbered g.ops → AreAlikeFuncs (record f { carry = None }) g
+  func_alike f g names read numbered =
+      let scope : Scope = scope_of f in
+      let owns_name : ℕ → Owned = owner v apart read.unit scope read.first f.ops in
+      let r : ℕ → ℕ = λ id. v (owns_name id) in
+      let used = all_used f read.unit names in
+      let outer = λ (a : ℕ) (d : IsDefined scope a). (let it : r a ≡ number_in v apart anyone read.unit scope a = ap v (owner_free v apart read.unit scope f.ops read.first a (names.free a d)) in it) in
+      let args : map (renamed_arg r) f.args ≡ map (renamed_arg (λ id. id)) g.args =
+      args_agree r (number_in v apart anyone read.unit scope) f.args (each_so (IsDefined scope) (λ a. r a ≡ number_in v apart anyone read.unit scope a) (map (λ arg. arg.id) f.args) outer names.args)
+      ∙ sym (args_same (map (renamed_arg (number_in v apart anyone read.unit scope)) f.args)) ∙ ap (map (renamed_arg (λ id. id))) (sym read.args) in
+      let ops : map (renamed_op r) f.ops ≡ map (renamed_op (λ id. id)) g.ops =
+      ops_alike v apart read.unit scope r f.ops read.first names.ops names.free names.disjoint (λ id h. refl) ∙ sym (read.ops numbered) in
+      record {
+        renaming = r;
+        apart = λ a b h g e.
+            let x = at_among (UsedBy v apart read.unit scope f.ops) (names_in_use f) a used h in
+            let y = at_among (UsedBy v apart read.unit scope f.ops) (names_in_use f) b used g in
+            owners_apart v apart read.unit scope names.texts f.ops read.first names.ops a b x y
+            (apart (owns_name a) (owns_name b) (owner_unit v apart read.unit scope f.ops read.first a ∙ sym (owner_unit v apart read.unit scope f.ops read.first b)) e);
+        same = rw (args, ops, sym read.name, sym read.private, sym read.results, sym read.carry) refl;
+      }
+
+  pub carried_alike : (f g : Func) → FuncNames f → CarriedRead v apart f g → AreNumbered g.ops → AreAlikeFuncs f g
+  carried_alike f g names c numbered =
+      let bare_numbered : AreNumbered c.bare.ops = subst (λ h. AreNumbered h.ops) c.is numbered in
+      let a = func_alike f c.bare names c.read bare_numbered in
+      record { renaming = a.renaming; apart = a.apart; same = ap {A = Func} {B = Func} (λ h. record h { carry = f.carry }) a.same ∙ ap placeless_func (sym c.is) }
+
+  pub all_alike : (fs gs : List Func) → AllByRecursion FuncNames fs → AreRead v apart fs gs → AllByRecursion (λ g. AreNumbered g.ops) gs → AreAlikeEach fs gs
+  all_alike [] [] names read numbered = tt
+  all_alike [] (g ∷ gs) names read numbered = absurd read
+  all_alike (f ∷ fs) [] names read numbered = absurd read
+  all_alike (f ∷ fs) (g ∷ gs) names read numbered = (carried_alike f g names.0 read.0 numbered.0, all_alike fs gs names.1 read.1 numbered.1)
+
+  -- so is what is read of a module
+  pub module_alike : (m n : Module) → AllByRecursion FuncNames m.funcs → ModuleRead v apart m n → AllByRecursion (λ g. AreNumbered g.ops) n.funcs → AreAlike m n
+  module_alike m n names read numbered = record {
+    name = sym read.of_name;
+    grids = sym read.of_grids;
+    funcs = all_alike m.funcs n.funcs names read.of_funcs numbered;
+    calls = sym read.of_calls;
+  }

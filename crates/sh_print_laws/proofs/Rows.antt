@@ -96,14 +96,14 @@ Gives N n ps v = IsForm N n ps (λ p. p ≡ v)
 
 -- ## Tokens of pieces side by side
 
-record AreBoth (ps qs : List Piece) (ts : List Lexeme) : Type 0 where
+pub record AreBoth (ps qs : List Piece) (ts : List Lexeme) : Type 0 where
   pub front : List Lexeme
   pub behind : List Lexeme
   pub is : front ++ behind ≡ ts
   pub first : AreTokensOf ps front
   pub second : AreTokensOf qs behind
 
-split : (ps qs : List Piece) (ts : List Lexeme) → AreTokensOf (ps ++ qs) ts → AreBoth ps qs ts
+pub split : (ps qs : List Piece) (ts : List Lexeme) → AreTokensOf (ps ++ qs) ts → AreBoth ps qs ts
 split [] qs ts are = record { front = []; behind = ts; is = refl; first = none; second = are }
 split (piece_token k x ∷ ps) qs _ (a_token {place = p} {ts = ts} more) = let s = split ps qs ts more in record {
   front = lexeme k x p ∷ s.front;
