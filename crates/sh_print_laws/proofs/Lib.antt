@@ -33,3 +33,4 @@ pub mod ItemForms
 pub mod ModuleForms
 pub mod Owners
 pub mod Codes
+pub mod FileReads

@@ -173,7 +173,7 @@ module _ (v : Owned → ℕ) (apart : (x y : Owned) → x.unit ≡ y.unit → v 
   closes : {V : List Part → Type 0} {α : List Symbol} {ps : List Piece} → ((unit op : ℕ) → RowTo (num_by v) (Standing (outside_spot anyone unit op)) (AtItem anyone) α ps V) → RowTo (num_by v) (AtItem anyone) (AtItem anyone) α ps V
   closes rows ts σ are h = rows h.0 h.1 ts σ are h.2
 
-  contents_spelled : (m : Module) → ModuleFits m → FormTo (num_by v) (Standing (outside_spot anyone 0 0)) (AtItem anyone) forms.Contents (tokens_of m) (IsModule m)
+  pub contents_spelled : (m : Module) → ModuleFits m → FormTo (num_by v) (Standing (outside_spot anyone 0 0)) (AtItem anyone) forms.Contents (tokens_of m) (IsModule m)
   unfolding made tokens_of items_pieces
   contents_spelled m f = by_row_entered 0 refl (λ σ h. enters_contents anyone 0 0 σ h) (then_token N keyword.the-module (λ p i.
       then_in_2 N (name_spelled m.name) _ _ (then_opening N (λ p i.
