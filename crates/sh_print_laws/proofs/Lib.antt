@@ -34,3 +34,5 @@ pub mod ModuleForms
 pub mod Owners
 pub mod Codes
 pub mod FileReads
+pub mod Positions
+pub mod Members

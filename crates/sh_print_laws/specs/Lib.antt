@@ -1,2 +1,3 @@
 pub mod TokensOf
 pub mod ReadsBack
+pub mod Printable
