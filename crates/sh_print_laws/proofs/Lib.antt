@@ -36,3 +36,4 @@ pub mod Codes
 pub mod FileReads
 pub mod Positions
 pub mod Members
+pub mod BlockNames

@@ -15,7 +15,7 @@ use Rattle.sh_print_laws.proofs.RegionForms.{is_inner}
 
 -- ## Each once
 
-abbrev once_more : List ℕ → ℕ → List ℕ
+abbrev pub once_more : List ℕ → ℕ → List ℕ
 once_more names id = if is_among names id then names else names ++ id ∷ []
 
 among_once : (names : List ℕ) (id a : ℕ) → is_among (once_more names id) a ≡ (is_among names a || nat_eq a id)
