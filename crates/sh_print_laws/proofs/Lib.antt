@@ -37,3 +37,4 @@ pub mod FileReads
 pub mod Positions
 pub mod Members
 pub mod BlockNames
+pub mod PrintableNames
