@@ -38,3 +38,4 @@ pub mod Positions
 pub mod Members
 pub mod BlockNames
 pub mod PrintableNames
+pub mod PrintableForms

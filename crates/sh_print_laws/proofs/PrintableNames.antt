@@ -50,12 +50,12 @@ module _ {X : Type 0} where
     | inr b ↦ inr b
   ]
 
-not_true : (b : Bool) → not b ≡ true → b ≡ false
+pub not_true : (b : Bool) → not b ≡ true → b ≡ false
 not_true false h = refl
 not_true true h = absurd (let e : false ≡ true = h in cc)
 
 -- a name of one list is none of the other
-disjoint_names : (xs ys : List ℕ) (a : ℕ) → are_disjoint xs ys ≡ true → Member a xs → is_among ys a ≡ false
+pub disjoint_names : (xs ys : List ℕ) (a : ℕ) → are_disjoint xs ys ≡ true → Member a xs → is_among ys a ≡ false
 disjoint_names xs ys a h m = not_true (is_among ys a) (of_test (λ x. not (is_among ys x)) xs a h m)
 
 in_firsts : (xs : List ℕ) (a : ℕ) → Member a xs → Member a (first_occurrences xs)
@@ -100,7 +100,7 @@ module _ (m : Module) (p : IsPrintable m) where
   abbrev body_in_module : (x : Op) (body : Body) → Member x (ops_of m) → (written_by x.kind).body ≡ Some body → Member body (bodies_in (ops_of m))
   body_in_module x body xm e = in_chosen (λ x. x.body) (op_texts (ops_of m)) (written_by x.kind) body (in_map (λ op. written_by op.kind) (ops_of m) x xm) e
 
-  types_spelled : (list_all is_spelled_type (flat_map func_types m.funcs ++ op_types m) ≡ true) × (list_all is_spelled_type (map (λ c. c.value_type) (call_constants m)) ≡ true)
+  pub types_spelled : (list_all is_spelled_type (flat_map func_types m.funcs ++ op_types m) ≡ true) × (list_all is_spelled_type (map (λ c. c.value_type) (call_constants m)) ≡ true)
   types_spelled = all_parts is_spelled_type (flat_map func_types m.funcs ++ op_types m) (map (λ c. c.value_type) (call_constants m)) p.formed.types
 
   op_types_spelled : list_all is_spelled_type (op_types m) ≡ true
@@ -157,7 +157,7 @@ module _ (m : Module) (p : IsPrintable m) where
     ]
 
     -- a name that the function defines is one of its names
-    name_of_func : (a : ℕ) → IsDefined (scope_of f) a → Member a (func_names f)
+    pub name_of_func : (a : ℕ) → IsDefined (scope_of f) a → Member a (func_names f)
     name_of_func a d =
         let am = among_member (names_defined f) a (sym (among_each (names_defined f) a) ∙ d) in
         elim (member_either (map (λ arg. arg.id) f.args) (flat_map (λ op. option_to_list op.defines) f.ops) a am) [
@@ -165,7 +165,7 @@ module _ (m : Module) (p : IsPrintable m) where
           | inr h ↦ in_second (map (λ arg. arg.id) f.args) _ a (defined_named f.ops a h)
         ]
 
-    apart_names : (list_all (are_disjoint (func_names f)) (map own_names (bodies_in f.ops)) ≡ true) × (are_apart (map own_names (bodies_in f.ops)) ≡ true)
+    pub apart_names : (list_all (are_disjoint (func_names f)) (map own_names (bodies_in f.ops)) ≡ true) × (are_apart (map own_names (bodies_in f.ops)) ≡ true)
     apart_names = and_parts (list_all (are_disjoint (func_names f)) (map own_names (bodies_in f.ops))) (are_apart (map own_names (bodies_in f.ops))) (of_test has_own_body_names m.funcs f p.formed.body_names fm)
 
     -- no name of the function is one of a region
