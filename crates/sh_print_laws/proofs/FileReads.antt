@@ -40,6 +40,7 @@ use Rattle.sh_print.specs.Layout.{Piece}
 use Rattle.sh_print.specs.Layout.Piece.{apart as piece_apart, closing as piece_closing, line_end as piece_line_end, opening as piece_opening, token as piece_token}
 use Rattle.sh_print.specs.LayoutLaw.{HasSpellings, Spelling, spelling, spelling_in, spellings_of}
 use Rattle.sh_print.specs.Tokens.{text_of, tokens_of}
+use Rattle.sh_print_laws.specs.Printable.{IsReadAlike}
 use Rattle.sh_print_laws.specs.TokensOf.{AreTokensOf, lexeme}
 use Rattle.sh_print_laws.specs.TokensOf.AreTokensOf.{none, a_token, an_apart, an_opening, a_closing, a_line_end}
 use Rattle.sh_print_laws.proofs.Between.{outside_spot}
@@ -251,13 +252,7 @@ funcs_numbered (f ∷ funcs) h = (front f.ops h, funcs_numbered funcs (behind f.
     behind [] h = h
     behind (x ∷ ops) h = behind ops h.1
 
--- A module alike that the text stands for.
-pub record IsReadBack (m : Module) (text : List ℕ) : Type 0 where
-  pub found : Module
-  pub reads : Reads text found
-  pub alike : AreAlike m found
-
-pub text_read : (m : Module) → IsFormed m → ModuleFits m → AllByRecursion FuncNames m.funcs → IsReadBack m (text_of m)
+pub text_read : (m : Module) → IsFormed m → ModuleFits m → AllByRecursion FuncNames m.funcs → IsReadAlike m (text_of m)
 text_read m formed fits names =
     let printed : HasSpellings (text_of m) (spellings_of (tokens_of m)) = layout_lexes (tokens_of m) (formed_can_be_read m formed) in
     let are : AreTokensOf (tokens_of m ++ the_end ∷ []) (lexemes (text_of m) printed.tokens) =

@@ -107,9 +107,11 @@ module _ (v : Owned → ℕ) (apart : (x y : Owned) → x.unit ≡ y.unit → v 
 
   ops_joined : (k : ℕ) (x : Op) (ops : List Op) (p q : Part) → IsRead v apart fit unit k scope x p → IsOps (k + token_count (op_pieces scope x)) ops q
       → IsOps k (x ∷ ops) (part.Ops (before (op_in p) (ops_in q)))
-  ops_joined k x ops p q one more =
-      (one.0 ∷ more.0, ap (λ r. part.Ops (before (op_in r) (ops_in q))) one.1 ∙ ap (λ r. part.Ops (one.0 ∷ ops_in r)) more.1,
-        λ numbered. ap (λ o. o ∷ map (renamed_op (λ id. id)) more.0) (one.2 numbered.0) ∙ ap (λ os. renamed_op (reader_of v apart fit unit k scope x.kind) x ∷ os) (more.2 numbered.1))
+  ops_joined k x ops p q one more = (
+    one.0 ∷ more.0,
+    ap (λ r. part.Ops (before (op_in r) (ops_in q))) one.1 ∙ ap (λ r. part.Ops (one.0 ∷ ops_in r)) more.1,
+    λ numbered. ap (λ o. o ∷ map (renamed_op (λ id. id)) more.0) (one.2 numbered.0) ∙ ap (λ os. renamed_op (reader_of v apart fit unit k scope x.kind) x ∷ os) (more.2 numbered.1),
+  )
 
   ops_spelled : (k : ℕ) (ops : List Op) → OpsFit scope ops
       → FormTo (num_by v) (λ σ. Between fit unit σ × (σ.count ≡ k)) (Behind fit unit) forms.Operations (flat_map (op_pieces scope) ops) (IsOps k ops)

@@ -227,23 +227,27 @@ module _ (v : Owned → ℕ) (apart : (x y : Owned) → x.unit ≡ y.unit → v 
         then_is N (results_spelled v apart anyone unit scope op f.results results) (then_opening N (λ q j.
         then_form N (form_between (λ σ h. record { spot = outside_spot anyone unit op; stands = h; of_fit = refl; of_at = refl; of_func = refl }) (λ σ h. h) (ops_anywhere v apart anyone unit scope f.ops ops)) (λ q o.
         behind_any (λ last. let M = naming v (outside_spot anyone unit last) refl in
-        then_closing M (λ r j. then_line_end M (row_to_end (λ σ h. (unit, last, h)) (end_row M (record {
-          name = f.name;
-          private = f.private;
-          args = map (renamed_arg (number_in v apart anyone unit scope)) f.args;
-          results = f.results;
-          ops = o.1.0;
-          carry = None;
-          place = p;
-        }, ap (λ x. part.Func (record {
-          name = f.name;
-          private = f.private;
-          args = map (renamed_arg (number_in v apart anyone unit scope)) f.args;
-          results = f.results;
-          ops = ops_in x;
-          carry = None;
-          place = p;
-        })) o.1.1, record { unit = unit; first = o.0; name = refl; private = refl; results = refl; carry = refl; args = refl; ops = o.1.2 })))))))))))))))
+        then_closing M (λ r j. then_line_end M (row_to_end (λ σ h. (unit, last, h)) (end_row M (
+          record {
+            name = f.name;
+            private = f.private;
+            args = map (renamed_arg (number_in v apart anyone unit scope)) f.args;
+            results = f.results;
+            ops = o.1.0;
+            carry = None;
+            place = p;
+          },
+          ap (λ x. part.Func (record {
+            name = f.name;
+            private = f.private;
+            args = map (renamed_arg (number_in v apart anyone unit scope)) f.args;
+            results = f.results;
+            ops = ops_in x;
+            carry = None;
+            place = p;
+          })) o.1.1,
+          record { unit = unit; first = o.0; name = refl; private = refl; results = refl; carry = refl; args = refl; ops = o.1.2 },
+        )))))))))))))))
 
   pub func_spelled : (fit : List ℕ → Bool) (scope : Scope) (f : Func) → fit (64 ∷ f.name) ≡ true → list_all (λ arg. is_spelled_type arg.value_type) f.args ≡ true
       → list_all is_spelled_type f.results ≡ true → OpsFit scope f.ops

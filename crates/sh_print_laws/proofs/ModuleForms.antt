@@ -104,9 +104,11 @@ module _ (v : Owned → ℕ) (apart : (x y : Owned) → x.unit ≡ y.unit → v 
   unfolding made
   calls_spelled [] h = by_row_entered 0 refl items_entered (end_row N (record { grids = []; funcs = []; calls = [] }, refl, record { of_grids = refl; of_funcs = tt; of_calls = refl }))
   calls_spelled (c ∷ calls) h = by_row_entered 1 refl items_entered (then_form N (item_any (λ unit op. call_spelled (naming v (outside_spot anyone unit op) refl) c h.0)) (λ p one.
-      last_form N (calls_spelled calls h.1) (λ q more. (record more.0 { calls = record c { place = one.0 } ∷ more.0.calls },
+      last_form N (calls_spelled calls h.1) (λ q more. (
+        record more.0 { calls = record c { place = one.0 } ∷ more.0.calls },
         ap (λ x. part.Contents (with_item x (contents_in q))) one.1 ∙ ap (λ y. part.Contents (with_item (part.Call (record c { place = one.0 })) (contents_in y))) more.1,
-        record { of_grids = more.2.of_grids; of_funcs = more.2.of_funcs; of_calls = ap (λ cs. placeless_call c ∷ cs) more.2.of_calls }))))
+        record { of_grids = more.2.of_grids; of_funcs = more.2.of_funcs; of_calls = ap (λ cs. placeless_call c ∷ cs) more.2.of_calls },
+      ))))
 
   -- a function, behind its device item if it has one
   func_item : (f : Func) → FuncFits f → FormTo (num_by v) (AtItem anyone) (AtItem anyone) forms.Item (func_pieces f) (λ p. (g : Func) × (p ≡ part.Func g) × CarriedRead f g)
@@ -122,8 +124,11 @@ module _ (v : Owned → ℕ) (apart : (x y : Owned) → x.unit ≡ y.unit → v 
           (λ p is. (is.0, is.1, record { bare = is.0; read = is.2; place = is.0.place; is = ap (λ c. record is.0 { carry = c }) (is.2.carry ∙ sym e) })))
       go (Some carry) e h = by_row_entered 1 refl item_entered (row_by N (sym (append_assoc (carry_pieces f.name carry) (signature_pieces (scope_of f) f) (ops_pieces (scope_of f) f.ops)))
           (then_form N (device_at f.name carry h) (λ d device. last_form N (func_spelled v apart (same_text (64 ∷ f.name)) (scope_of f) f (same_self (64 ∷ f.name)) fits.args fits.results fits.ops)
-          (λ p is. (record is.0 { carry = Some carry; place = device.0 }, ap (λ x. carried x p) device.1 ∙ ap (carried (part.Device (record { name = f.name; carry = carry; place = device.0 }))) is.1,
-          record { bare = is.0; read = is.2; place = device.0; is = ap (λ c. record is.0 { carry = c; place = device.0 }) (sym e) })))))
+          (λ p is. (
+            record is.0 { carry = Some carry; place = device.0 },
+            ap (λ x. carried x p) device.1 ∙ ap (carried (part.Device (record { name = f.name; carry = carry; place = device.0 }))) is.1,
+            record { bare = is.0; read = is.2; place = device.0; is = ap (λ c. record is.0 { carry = c; place = device.0 }) (sym e) },
+          )))))
         where
           device_at : (name : List ℕ) (carry : Carry) → CarryFits carry
               → FormTo (num_by v) (AtItem anyone) (AtItem (same_text (64 ∷ name))) forms.Device (carry_pieces name carry) (λ p. (place : Place) × (p ≡ part.Device (record { name = name; carry = carry; place = place })))
@@ -135,9 +140,11 @@ module _ (v : Owned → ℕ) (apart : (x y : Owned) → x.unit ≡ y.unit → v 
   unfolding made
   funcs_spelled [] calls h g = calls_spelled calls g
   funcs_spelled (f ∷ funcs) calls h g = by_row_entered 1 refl items_entered (row_by N (sym (append_assoc (func_pieces f) (flat_map func_pieces funcs) (flat_map call_pieces calls)))
-      (then_form N (func_item f h.0) (λ p one. last_form N (funcs_spelled funcs calls h.1 g) (λ q more. (record more.0 { funcs = one.0 ∷ more.0.funcs },
+      (then_form N (func_item f h.0) (λ p one. last_form N (funcs_spelled funcs calls h.1 g) (λ q more. (
+        record more.0 { funcs = one.0 ∷ more.0.funcs },
         ap (λ x. part.Contents (with_item x (contents_in q))) one.1 ∙ ap (λ y. part.Contents (with_item (part.Func one.0) (contents_in y))) more.1,
-        record { of_grids = more.2.of_grids; of_funcs = (one.2, more.2.of_funcs); of_calls = more.2.of_calls })))))
+        record { of_grids = more.2.of_grids; of_funcs = (one.2, more.2.of_funcs); of_calls = more.2.of_calls },
+      )))))
 
   items_spelled : (grids : List GridItem) (funcs : List Func) (calls : List CallItem) → AllByRecursion GridFits grids → AllByRecursion FuncFits funcs → AllByRecursion (λ c. AllByRecursion ArgumentFits c.args) calls
       → FormTo (num_by v) (AtItem anyone) (AtItem anyone) forms.Items (flat_map grid_pieces grids ++ (flat_map func_pieces funcs ++ flat_map call_pieces calls)) (IsItems grids funcs calls)
@@ -145,9 +152,11 @@ module _ (v : Owned → ℕ) (apart : (x y : Owned) → x.unit ≡ y.unit → v 
   items_spelled [] funcs calls k h g = funcs_spelled funcs calls h g
   items_spelled (x ∷ grids) funcs calls k h g = by_row_entered 1 refl items_entered (row_by N (sym (append_assoc (grid_pieces x) (flat_map grid_pieces grids) (flat_map func_pieces funcs ++ flat_map call_pieces calls)))
       (then_form N (item_any (λ unit op. grid_spelled (naming v (outside_spot anyone unit op) refl) x k.0.first k.0.more k.0.is k.0.natural k.0.spelled)) (λ p one.
-      last_form N (items_spelled grids funcs calls k.1 h g) (λ q more. (record more.0 { grids = record x { place = one.0 } ∷ more.0.grids },
+      last_form N (items_spelled grids funcs calls k.1 h g) (λ q more. (
+        record more.0 { grids = record x { place = one.0 } ∷ more.0.grids },
         ap (λ y. part.Contents (with_item y (contents_in q))) one.1 ∙ ap (λ y. part.Contents (with_item (part.Grid (record x { place = one.0 })) (contents_in y))) more.1,
-        record { of_grids = ap (λ gs. placeless_grid x ∷ gs) more.2.of_grids; of_funcs = more.2.of_funcs; of_calls = more.2.of_calls })))))
+        record { of_grids = ap (λ gs. placeless_grid x ∷ gs) more.2.of_grids; of_funcs = more.2.of_funcs; of_calls = more.2.of_calls },
+      )))))
 
   -- ## Modules
 
@@ -179,9 +188,11 @@ module _ (v : Owned → ℕ) (apart : (x y : Owned) → x.unit ≡ y.unit → v 
       then_in_2 N (name_spelled m.name) _ _ (then_opening N (λ p i.
       row_by N (ap (λ ps. ps ++ closing ∷ line_end ∷ []) (sym (append_assoc (flat_map grid_pieces m.grids) (flat_map func_pieces m.funcs) (flat_map call_pieces m.calls))))
       (then_form N (form_between (λ σ h. (0, 0, h)) (λ σ h. h) (items_spelled m.grids m.funcs m.calls f.grids f.funcs f.calls)) (λ q items.
-      closes (λ unit op. let M = naming v (outside_spot anyone unit op) refl in then_closing M (λ p i. then_line_end M (row_to_end (λ σ h. (unit, op, h)) (end_row M
-      (record { name = m.name; grids = items.0.grids; funcs = items.0.funcs; calls = items.0.calls }, ap (λ x. module_of m.name (contents_in x)) items.1,
-        record { of_name = refl; of_grids = items.2.of_grids; of_funcs = items.2.of_funcs; of_calls = items.2.of_calls })))))))))))
+      closes (λ unit op. let M = naming v (outside_spot anyone unit op) refl in then_closing M (λ p i. then_line_end M (row_to_end (λ σ h. (unit, op, h)) (end_row M (
+        record { name = m.name; grids = items.0.grids; funcs = items.0.funcs; calls = items.0.calls },
+        ap (λ x. module_of m.name (contents_in x)) items.1,
+        record { of_name = refl; of_grids = items.2.of_grids; of_funcs = items.2.of_funcs; of_calls = items.2.of_calls },
+      )))))))))))
 
   file_spelled : (m : Module) → ModuleFits m → FormTo (num_by v) (Standing (outside_spot anyone 0 0)) (AtItem anyone) forms.File (tokens_of m) (IsModule m)
   unfolding made

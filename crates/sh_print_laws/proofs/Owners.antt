@@ -123,7 +123,7 @@ module _ (v : Owned → ℕ) (apart : (x y : Owned) → x.unit ≡ y.unit → v 
   body_used None names = tt
   body_used (Some body) names =
       let P : ℕ → Type 0 = λ id. IsDefined scope id ⊎ (is_among (own_names body) id ≡ true) in
-      let swap = λ (id : ℕ) (h : (is_among (own_names body) id ≡ true) ⊎ IsDefined scope id). (let it : P id = elim h [ | inl a ↦ inr a | inr b ↦ inl b ] in it) in
+      let swap = λ (id : ℕ) (h : (is_among (own_names body) id ≡ true) ⊎ IsDefined scope id). (let it : P id = elim h [ inl a ↦ inr a | inr b ↦ inl b ] in it) in
       let args = each_so _ P body.args swap names.args_used in
       let ops = each_so _ (λ x. AllByRecursion P x.operands × P x.defines) body.ops (λ x h. (each_so _ P x.operands swap h.0, swap x.defines h.1)) names.ops_used in
       each_append P (names_of_body body) []
@@ -148,7 +148,7 @@ module _ (v : Owned → ℕ) (apart : (x y : Owned) → x.unit ≡ y.unit → v 
         ∙ ap (λ b. v (if b then region_owner k (written_by x.kind).body id else owner (k + token_count (op_pieces scope x)) ops id)) h
         ∙ sym (own_read k (written_by x.kind).body id h) in it) in
         op_agree r (reader_of v apart anyone unit k scope x.kind) x
-        (each_so (UsedAt x) (λ a. r a ≡ reader_of v apart anyone unit k scope x.kind a) (region_names x.kind) (λ a h. elim h [ | inl d ↦ outer a d | inr o ↦ own a o ]) (body_used (written_by x.kind).body names.regions))
+        (each_so (UsedAt x) (λ a. r a ≡ reader_of v apart anyone unit k scope x.kind a) (region_names x.kind) (λ a h. elim h [ inl d ↦ outer a d | inr o ↦ own a o ]) (body_used (written_by x.kind).body names.regions))
         (each_so (IsDefined scope) (λ a. r a ≡ reader_of v apart anyone unit k scope x.kind a) (op_names x) outer names.used)
 
     ops_alike : (ops : List Op) (k : ℕ) → AllByRecursion (OpNames scope) ops → ((id : ℕ) → IsDefined scope id → list_any (λ y. owns_in y id) ops ≡ false) → AreDisjoint ops
@@ -157,13 +157,13 @@ module _ (v : Owned → ℕ) (apart : (x y : Owned) → x.unit ≡ y.unit → v 
     ops_alike (x ∷ ops) k names free disjoint same =
         let later = λ (id : ℕ) (h : UsedBy ops id).
         (let none : owns_in x id ≡ false = elim h [
-              | inl d ↦ (or_none (owns_in x id) (list_any (λ y. owns_in y id) ops) (free id d)).0
-              | inr o ↦ disjoint.0 id o
-            ] in
+          | inl d ↦ (or_none (owns_in x id) (list_any (λ y. owns_in y id) ops) (free id d)).0
+          | inr o ↦ disjoint.0 id o
+        ] in
         let used : UsedBy (x ∷ ops) id = elim h [
-              | inl d ↦ inl d
-              | inr o ↦ inr (or_right (owns_in x id) (list_any (λ y. owns_in y id) ops) o)
-            ] in
+          | inl d ↦ inl d
+          | inr o ↦ inr (or_right (owns_in x id) (list_any (λ y. owns_in y id) ops) o)
+        ] in
         let it : r id ≡ v (owner (k + token_count (op_pieces scope x)) ops id) =
         same id used ∙ ap (λ b. v (if b then region_owner k (written_by x.kind).body id else owner (k + token_count (op_pieces scope x)) ops id)) none in it) in
         ap (λ o. o ∷ map (renamed_op r) ops) (op_alike x ops k names.0 free same)

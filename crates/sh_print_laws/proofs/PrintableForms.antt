@@ -29,10 +29,10 @@ use Rattle.sh_ir.specs.declared.types.ValueType.TheVariants as type
 use Rattle.sh_print.specs.Layout.Piece.{line_end}
 use Rattle.sh_print.specs.Tokens.{defined, kind_pieces, op_pieces, return_pieces, scope_of, text_of}
 use Rattle.sh_print.specs.Values.{Scope}
-use Rattle.sh_print_laws.specs.Printable.{HasFewWords, IsPrintable}
+use Rattle.sh_print_laws.specs.Printable.{HasFewWords, IsPrintable, IsReadAlike}
 use Rattle.sh_print_laws.specs.ReadsBack.{is_whole}
 use Rattle.sh_print_laws.proofs.Counted.{token_count}
-use Rattle.sh_print_laws.proofs.FileReads.{IsReadBack, text_read}
+use Rattle.sh_print_laws.proofs.FileReads.{text_read}
 use Rattle.sh_print_laws.proofs.FunctionForms.{InnerFits, LastFits, OpsFit}
 use Rattle.sh_print_laws.proofs.ItemForms.{ArgumentFits, CarryFits, CutFits}
 use Rattle.sh_print_laws.proofs.LoopForms.{RegionNames}
@@ -87,14 +87,16 @@ apart_regions (x ∷ ops) h = by (written_by x.kind).body refl h (apart_regions 
     by : (o : Option Body) → (written_by x.kind).body ≡ o → are_apart (map own_names (cons_option o (bodies_in ops))) ≡ true → (are_apart (map own_names (bodies_in ops)) ≡ true → AreDisjoint ops) → AreDisjoint (x ∷ ops)
     by None e g again = ((λ id any. ap (λ o. option_map_or (λ body. is_among (own_names body) id) o false) e), again g)
     by (Some body) e g again =
-        let both = and_parts (list_all (are_disjoint (own_names body)) (map own_names (bodies_in ops))) (are_apart (map own_names (bodies_in ops))) g in
-        ((λ id any. ap (λ o. option_map_or (λ body. is_among (own_names body) id) o false) e ∙ elim (cases_Bool (is_among (own_names body) id)) [
-          | inr none ↦ none
-          | inl own ↦ absurd (true≢false (sym any ∙ none_any (λ y. owns_in y id) ops (λ y ym. owned_none (written_by y.kind).body id (λ other is.
-            disjoint_names (own_names body) (own_names other) id
-            (of_test (are_disjoint (own_names body)) (map own_names (bodies_in ops)) (own_names other) both.0 (in_map own_names (bodies_in ops) other (in_chosen (λ x. x.body) (op_texts ops) (written_by y.kind) other (in_map (λ op. written_by op.kind) ops y ym) is)))
-            (among_member (own_names body) id own)))))
-        ]), again both.1)
+        let both = and_parts (list_all (are_disjoint (own_names body)) (map own_names (bodies_in ops))) (are_apart (map own_names (bodies_in ops))) g in (
+          (λ id any. ap (λ o. option_map_or (λ body. is_among (own_names body) id) o false) e ∙ elim (cases_Bool (is_among (own_names body) id)) [
+            | inr none ↦ none
+            | inl own ↦ absurd (true≢false (sym any ∙ none_any (λ y. owns_in y id) ops (λ y ym. owned_none (written_by y.kind).body id (λ other is.
+                disjoint_names (own_names body) (own_names other) id
+                (of_test (are_disjoint (own_names body)) (map own_names (bodies_in ops)) (own_names other) both.0 (in_map own_names (bodies_in ops) other (in_chosen (λ x. x.body) (op_texts ops) (written_by y.kind) other (in_map (λ op. written_by op.kind) ops y ym) is)))
+                (among_member (own_names body) id own)))))
+          ]),
+          again both.1,
+        )
 
 module _ (m : Module) (p : IsPrintable m) where
   module _ (f : Func) (fm : Member f m.funcs) where
@@ -255,7 +257,7 @@ module _ (m : Module) (p : IsPrintable m) where
         spelled = of_test is_spelled_type (map (λ c. c.value_type) (call_constants m)) x.value_type (types_spelled m p).1 (in_map (λ c. c.value_type) (call_constants m) x there);
       }
 
-  pub printed_is_read : IsReadBack m (text_of m)
+  pub printed_is_read : IsReadAlike m (text_of m)
   printed_is_read = text_read m p.formed
       (record {
         grids = all_of GridFits m.grids grid_fits;

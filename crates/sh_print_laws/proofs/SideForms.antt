@@ -96,9 +96,16 @@ module _ (v : Owned → ℕ) (apart : (x y : Owned) → x.unit ≡ y.unit → v 
       → FormTo (num_by v) (Standing (outside_spot fit unit op)) (Amid v apart fit unit op scope) forms.RightSide (kind_pieces scope k xs t) (IsRight k xs t)
   simple_side k xs t simple w ts σ are h =
       let r = kind_spelled (naming v (outside_spot fit unit op) refl) scope k xs t simple w ts σ are h in
-      record { i = r.i; body = r.body; below = r.below; is = r.is; spells = r.spells; takes = r.takes;
+      record {
+        i = r.i;
+        body = r.body;
+        below = r.below;
+        is = r.is;
+        spells = r.spells;
+        takes = r.takes;
         value = (k, r.value, λ numbered. kind_kept (λ id. id) k simple ∙ sym (kind_kept (reader_of v apart fit unit op scope k) k simple));
-        holds = amid_outside _ r.holds }
+        holds = amid_outside _ r.holds;
+      }
 
   side_by_view : (k : OpKind) (xs : List ℕ) (t : ValueType) → KindView k → OpFits scope k xs t
       → FormTo (num_by v) (Standing (outside_spot fit unit op)) (Amid v apart fit unit op scope) forms.RightSide (kind_pieces scope k xs t) (IsRight k xs t)
@@ -153,8 +160,11 @@ module _ (v : Owned → ℕ) (apart : (x y : Owned) → x.unit ≡ y.unit → v 
       let N = naming v (outside_spot fit unit op) refl in
       by_row_entered 0 refl (λ σ h. h) (then_value N (λ p. then_token N keyword.the-equals (λ q i.
       then_form N (right_side_spelled k xs t other fits) (λ r side. then_line_end N (row_to_end (λ σ h. record { spot = h.spot; stands = h.stands; of_fit = h.of_fit; of_at = h.of_at; of_func = h.of_func })
-      (end_row N (op_of side.0 (map number_of xs) (Some (number_of d)) t p, ap (defining (record { id = number_of d; place = p })) side.1,
-      λ numbered. same_operation k side.0 xs d t place p fits.regions out (side.2 numbered))))))))
+      (end_row N (
+        op_of side.0 (map number_of xs) (Some (number_of d)) t p,
+        ap (defining (record { id = number_of d; place = p })) side.1,
+        λ numbered. same_operation k side.0 xs d t place p fits.regions out (side.2 numbered),
+      )))))))
 
   -- ## The return
 

@@ -7,6 +7,8 @@ use Rattle.sh_ir.specs.declared.bodies.Body.{Body}
 use Rattle.sh_ir.specs.declared.functions.Func.{Func}
 use Rattle.sh_ir.specs.declared.linalg_ops.AffineMap.{AffineMap}
 use Rattle.sh_ir.specs.declared.modules.Module.{Module}
+use Rattle.sh_alike.specs.Alike.{AreAlike}
+use Rattle.sh_parse.specs.Reads.{Reads}
 use Rattle.sh_print.specs.Values.{each_once}
 use Rattle.sh_print_laws.specs.ReadsBack.{is_whole}
 
@@ -34,3 +36,9 @@ pub record IsPrintable (m : Module) : Type 0 where
   pub names : AllByRecursion IsNamed m.funcs
   pub regions : AllByRecursion IsRegionNamed (bodies_in (ops_of m))
   pub words : AllByRecursion HasFewWords (flat_map (λ x. x.maps) (all_written m))
+
+-- The text stands for a module, which is alike.
+pub record IsReadAlike (m : Module) (text : List ℕ) : Type 0 where
+  pub found : Module
+  pub reads : Reads text found
+  pub alike : AreAlike m found

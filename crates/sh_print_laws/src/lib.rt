@@ -1,5 +1,8 @@
 //! The laws of printing: what is printed is read back.
 //!
+//! `specs/Printable.antt` says which modules these are: formed ones whose literals fit their types
+//! and whose functions use names that they define, within bounds that no memory reaches.
+//!
 //! `specs/TokensOf.antt` says which lexemes are the tokens of printed pieces, and
 //! `specs/ReadsBack.antt` when such tokens are read as a part of a module. Nothing is asked of
 //! where they stand, and each name may have any number that goes by its text.
@@ -12,14 +15,22 @@ ghost use Rattle.sh_grammar.specs.Lexemes.{Lexeme};
 ghost use Rattle.sh_grammar.specs.declared.forms.Form.TheVariants.{RightSide, ValueType as TypeForm};
 ghost use Rattle.sh_ir.specs.Formed.{is_spelled_type};
 ghost use Rattle.sh_ir.specs.Parts.{op_of};
+ghost use Rattle.sh_ir.specs.declared.modules.Module.{Module};
 ghost use Rattle.sh_ir.specs.declared.operations.OpKind.{OpKind};
 ghost use Rattle.sh_ir.specs.declared.types.ValueType.{ValueType};
 ghost use Rattle.sh_print.specs.Spellings.{type_pieces};
-ghost use Rattle.sh_print.specs.Tokens.{kind_pieces, op_pieces};
+ghost use Rattle.sh_print.specs.Tokens.{kind_pieces, op_pieces, text_of};
 ghost use Rattle.sh_print.specs.Values.{Scope};
+ghost use Rattle.sh_print_laws.specs.Printable.{IsPrintable, IsReadAlike};
 ghost use Rattle.sh_print_laws.specs.ReadsBack.{IsOperationRead, IsWritten, ReadBack, by_names};
 ghost use Rattle.sh_print_laws.specs.ReadsBack.{is_simple, type_part};
 ghost use Rattle.sh_print_laws.specs.TokensOf.{AreTokensOf};
+
+/// The text of a printable module is read, and as a module alike: the same but for places and the
+/// numbering of values, function by function, no two names of which become one.
+pub fn modules_read_back()
+    ensures { (m : Module) → IsPrintable m → IsReadAlike m (text_of m) }
+{}
 
 /// A type that a text can spell is read back as it was printed.
 pub fn types_read_back()
