@@ -18,7 +18,7 @@ module _ (r : ℕ → ℕ) (Used : ℕ → Type 0) (apart : (a b : ℕ) → Used
   abbrev pub StepUses : BodyOp → Type 0
   StepUses x = AllUsed x.operands × Used x.defines
 
-  eq_renamed : (a b : ℕ) → Used a → Used b → nat_eq (r a) (r b) ≡ nat_eq a b
+  pub eq_renamed : (a b : ℕ) → Used a → Used b → nat_eq (r a) (r b) ≡ nat_eq a b
   eq_renamed a b h g = elim (cases_Bool (nat_eq a b)) [
     | inl e ↦ eq-eqb (r a) (r b) (ap r (eqb-true a b e)) ∙ sym e
     | inr e ↦ elim (cases_Bool (nat_eq (r a) (r b))) [
@@ -27,7 +27,7 @@ module _ (r : ℕ → ℕ) (Used : ℕ → Type 0) (apart : (a b : ℕ) → Used
     ]
   ]
 
-  among_renamed : (xs : List ℕ) (a : ℕ) → AllUsed xs → Used a → is_among (map r xs) (r a) ≡ is_among xs a
+  pub among_renamed : (xs : List ℕ) (a : ℕ) → AllUsed xs → Used a → is_among (map r xs) (r a) ≡ is_among xs a
   among_renamed [] a h g = refl
   among_renamed (x ∷ xs) a h g = rw (eq_renamed a x g h.0, among_renamed xs a h.1 g) refl
 

@@ -39,3 +39,4 @@ pub mod Members
 pub mod BlockNames
 pub mod PrintableNames
 pub mod PrintableForms
+pub mod RenamedNames
