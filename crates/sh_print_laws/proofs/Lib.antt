@@ -40,3 +40,4 @@ pub mod BlockNames
 pub mod PrintableNames
 pub mod PrintableForms
 pub mod RenamedNames
+pub mod Reprinted
