@@ -12,8 +12,6 @@ mod reshapes;
 mod rules;
 mod shapes;
 mod slices;
-#[cfg(test)]
-mod tests;
 mod typing;
 mod values;
 

@@ -1,8 +1,8 @@
 ghost use Rattle.std.specs.Prelude.{◌≡◌, ◌≤◌, ◌∷◌, [], IfOk, length};
 ghost use Rattle.sh_base.specs.Shape.{max_cells};
 
-use crate::{Formula, element_of_one, element_of_two};
 use sh_base::{BinOp, CastOp, Cell, Width, shape};
+use sh_eval::{Formula, element_of_one, element_of_two};
 use sh_tensor::{Tensor, build};
 use std::alloc::Global;
 use std::test::Fail;
