@@ -41,3 +41,4 @@ pub mod PrintableNames
 pub mod PrintableForms
 pub mod RenamedNames
 pub mod Reprinted
+pub mod PrintedTwice

@@ -42,7 +42,7 @@ member_among (x ∷ xs) a (inl e) = or_left (nat_eq a x) (is_among xs a) (eq-eqb
 member_among (x ∷ xs) a (inr m) = or_right (nat_eq a x) (is_among xs a) (member_among xs a m)
 
 module _ {X : Type 0} where
-  member_either : (xs ys : List X) (x : X) → Member x (xs ++ ys) → Member x xs ⊎ Member x ys
+  pub member_either : (xs ys : List X) (x : X) → Member x (xs ++ ys) → Member x xs ⊎ Member x ys
   member_either [] ys x m = inr m
   member_either (z ∷ xs) ys x (inl e) = inl (inl e)
   member_either (z ∷ xs) ys x (inr m) = elim (member_either xs ys x m) [

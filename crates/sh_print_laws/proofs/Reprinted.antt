@@ -208,7 +208,7 @@ module _ (r : ℕ → ℕ) (Used : ℕ → Type 0) (apart : (a b : ℕ) → Used
   AreUsed xs = AllByRecursion Used xs
 
   -- What is known of the names of a region.
-  record BodyUsed (body : Body) : Type 0 where
+  pub record BodyUsed (body : Body) : Type 0 where
     pub own : AreUsed (own_names body)
     pub fit : AllByRecursion (λ x. OperandsFit (written_in_body x.kind) x.operands) body.ops
     pub operands : AllByRecursion (λ x. AreUsed x.operands) body.ops
@@ -216,7 +216,7 @@ module _ (r : ℕ → ℕ) (Used : ℕ → Type 0) (apart : (a b : ℕ) → Used
     pub yields : Used body.yields
 
   -- and of an operation
-  record OpUsed (x : Op) : Type 0 where
+  pub record OpUsed (x : Op) : Type 0 where
     pub fit : OperandsFit (written_by x.kind) x.operands
     pub operands : AreUsed x.operands
     pub defines : AreUsed (option_to_list x.defines)
@@ -284,7 +284,7 @@ module _ (r : ℕ → ℕ) (Used : ℕ → Type 0) (apart : (a b : ℕ) → Used
 
   -- ## Functions
 
-  func_same : (f : Func) → AreUsed (names_defined f) → AreUsed (map (λ arg. arg.id) f.args) → AllByRecursion OpUsed f.ops → func_pieces (renamed_func r f) ≡ func_pieces f
+  pub func_same : (f : Func) → AreUsed (names_defined f) → AreUsed (map (λ arg. arg.id) f.args) → AllByRecursion OpUsed f.ops → func_pieces (renamed_func r f) ≡ func_pieces f
   unfolding func_pieces signature_pieces parameters_pieces ops_pieces
   func_same f names args ops =
       let s : Scope = scope_of f in

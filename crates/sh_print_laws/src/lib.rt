@@ -9,15 +9,17 @@
 #![tactic(auto)]
 
 ghost use Rattle.std.specs.Prelude.{◌≡◌, ℕ, List, map, true, IsTrue, Some};
+ghost use Rattle.sh_alike.specs.Alike.{AreAlike};
 ghost use Rattle.sh_base.specs.declared.places.Place.{Place};
 ghost use Rattle.sh_build.specs.Meaning.{side};
 ghost use Rattle.sh_grammar.specs.Lexemes.{Lexeme};
 ghost use Rattle.sh_grammar.specs.declared.forms.Form.TheVariants.{RightSide, ValueType as TypeForm};
-ghost use Rattle.sh_ir.specs.Formed.{is_spelled_type};
+ghost use Rattle.sh_ir.specs.Formed.{IsFormed, is_spelled_type};
 ghost use Rattle.sh_ir.specs.Parts.{op_of};
 ghost use Rattle.sh_ir.specs.declared.modules.Module.{Module};
 ghost use Rattle.sh_ir.specs.declared.operations.OpKind.{OpKind};
 ghost use Rattle.sh_ir.specs.declared.types.ValueType.{ValueType};
+ghost use Rattle.sh_parse.specs.Reads.{Reads};
 ghost use Rattle.sh_print.specs.Spellings.{type_pieces};
 ghost use Rattle.sh_print.specs.Tokens.{kind_pieces, op_pieces, text_of};
 ghost use Rattle.sh_print.specs.Values.{Scope};
@@ -30,6 +32,16 @@ ghost use Rattle.sh_print_laws.specs.TokensOf.{AreTokensOf};
 /// numbering of values, function by function, no two names of which become one.
 pub fn modules_read_back()
     ensures { (m : Module) → IsPrintable m → IsReadAlike m (text_of m) }
+{}
+
+/// Modules that are alike are printed as one text.
+pub fn alike_modules_printed()
+    ensures { (m n : Module) → IsFormed m → IsFormed n → AreAlike m n → text_of m ≡ text_of n }
+{}
+
+/// What is read of a printable module's text is printed as that text again.
+pub fn printing_twice()
+    ensures { (m n : Module) → IsPrintable m → Reads (text_of m) n → text_of n ≡ text_of m }
 {}
 
 /// A type that a text can spell is read back as it was printed.
