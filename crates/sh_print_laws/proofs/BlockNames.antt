@@ -2,16 +2,20 @@
 use Rattle.std.proofs.Common.{◌≡◌, ◌∙◌, ◌<◌, ◌≤◌, ◌+◌, ◌-◌, inl, inr, ◌||◌, ℕ, zero, suc, Bool, true, false, not, nat_eq, nat_lt, List, [], ◌∷◌, ◌++◌, map, length, Option, Some, None, refl, ap, sym, subst, arith, append_assoc, length-append, if◌then◌else◌, lt-ltb, true≢false}
 use Rattle.std.specs.Prelude.{fold}
 use Rattle.std.specs.List.{list_any, position_or_len}
-use Rattle.std.proofs.lemmas.Bool.{cases_Bool, eq-eqb, or_left, or_right}
+use Rattle.std.proofs.Math.Bool.{or-false}
+use Rattle.std.proofs.lemmas.Bool.{cases_Bool, eq-eqb, eqb-true, or_cases, or_left, or_parts, or_right}
 use Rattle.std.proofs.lemmas.Grind.{fold-append}
 use Rattle.std.proofs.lemmas.List.{append-nil}
+use Rattle.std.proofs.lemmas.List.Folds.{list_any-append}
 use Rattle.sh_base.specs.declared.numbers.Width.{Width}
+use Rattle.sh_ir.specs.Numbers.{are_distinct}
 use Rattle.sh_ir.specs.Regions.{is_among, own_names}
 use Rattle.sh_ir.specs.declared.bodies.Body.{Body}
 use Rattle.sh_print.specs.Tokens.{scope_of_body}
 use Rattle.sh_print.specs.Values.{Scope, each_once, name_in, name_inside, name_text, own_name_at}
 use Rattle.sh_print.specs.declared.names.Name.TheVariants.{BlockArgument, BodyValue}
 use Rattle.sh_print_laws.proofs.LoopForms.{region_text, texts_from}
+use Rattle.sh_print_laws.proofs.Tests.{and_parts}
 use Rattle.sh_print_laws.proofs.Positions.{is_placed, once_more, place_of}
 
 once_length : (names ids : List ℕ) → length (fold once_more names ids) ≤ length names + length ids
@@ -29,12 +33,28 @@ abbrev AreNew : List ℕ → List ℕ → Type 0
 AreNew names [] = Unit {0}
 AreNew names (x ∷ xs) = (is_among names x ≡ false) × AreNew (names ++ x ∷ []) xs
 
-all_new : (names ids : List ℕ) → length (fold once_more names ids) ≡ length names + length ids → AreNew names ids
-all_new names [] h = tt
-all_new names (x ∷ xs) h = elim (cases_Bool (is_among names x)) [
-  | inl e ↦ absurd (let same : length (fold once_more names xs) ≡ length names + suc (length xs) = rw e at h in let less = once_length names xs in omega arith)
-  | inr e ↦ (e, all_new (names ++ x ∷ []) xs (let same : length (fold once_more (names ++ x ∷ []) xs) ≡ length names + suc (length xs) = rw e at h in let l = length-append names (x ∷ []) in omega arith))
-]
+-- distinct names of which none is among these are new
+distinct_new : (names ids : List ℕ) → are_distinct ids ≡ true → ((a : ℕ) → is_among names a ≡ true → is_among ids a ≡ false) → AreNew names ids
+distinct_new names [] h apart = tt
+distinct_new names (x ∷ xs) h apart =
+    let both = and_parts (not (is_among xs x)) (are_distinct xs) h in (
+      elim (cases_Bool (is_among names x)) [
+        | inr e ↦ e
+        | inl e ↦ absurd (true≢false (sym (or_left (nat_eq x x) (is_among xs x) (eq-eqb x x refl)) ∙ apart x e))
+      ],
+      distinct_new (names ++ x ∷ []) xs both.1 (λ a h. elim (or_cases (is_among names a) (nat_eq a x || false) (sym (list_any-append (nat_eq a) names (x ∷ [])) ∙ h)) [
+        | inl e ↦ (or_parts (nat_eq a x) (is_among xs a) (apart a e)).1
+        | inr e ↦ subst (λ b. is_among xs b ≡ false) (sym (eqb-true a x (sym (or-false (nat_eq a x)) ∙ e))) (none (is_among xs x) both.0)
+      ]),
+    )
+  where
+    none : (b : Bool) → not b ≡ true → b ≡ false
+    none false h = refl
+    none true h = absurd (let e : false ≡ true = h in cc)
+
+new_kept : (names ids : List ℕ) → AreNew names ids → fold once_more names ids ≡ names ++ ids
+new_kept names [] h = sym (append-nil names)
+new_kept names (x ∷ xs) h = rw h.0 (new_kept (names ++ x ∷ []) xs h.1 ∙ append_assoc names (x ∷ []) xs)
 
 -- Those names come first.
 record Begins (names all : List ℕ) : Type 0 where
@@ -78,10 +98,10 @@ module _ (own outer : Scope) where
       ∙ ap (λ ts. name_text (BlockArgument (length names)) ∷ ts) (rest ∙ ap (λ k. texts_from k ws) longer)
 
 -- the block arguments of a region are printed by their places
-pub argument_texts : (scope : Scope) (body : Body) → each_once body.args ≡ body.args → length body.args ≡ length body.widths → map (region_text scope body) body.args ≡ texts_from 0 body.widths
+pub argument_texts : (scope : Scope) (body : Body) → are_distinct body.args ≡ true → length body.args ≡ length body.widths → map (region_text scope body) body.args ≡ texts_from 0 body.widths
 argument_texts scope body distinct typed =
     let ds : List ℕ = map (λ x. x.defines) body.ops in
-    let all : each_once (own_names body) ≡ fold once_more body.args ds = fold-append once_more [] body.args ds ∙ ap (λ names. fold once_more names ds) distinct in
+    let new : AreNew [] body.args = distinct_new [] body.args distinct (λ a h. absurd (let e : false ≡ true = h in cc)) in
+    let all : each_once (own_names body) ≡ fold once_more body.args ds = fold-append once_more [] body.args ds ∙ ap (λ names. fold once_more names ds) (new_kept [] body.args new) in
     let begins = fold_begins body.args ds in
-    let new : AreNew [] body.args = all_new [] body.args (ap length distinct ∙ omega arith) in
     texts_by_place (scope_of_body body) scope [] body.args begins.more body.widths (all ∙ begins.is) new typed (omega arith)

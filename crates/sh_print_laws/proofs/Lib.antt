@@ -42,3 +42,4 @@ pub mod PrintableForms
 pub mod RenamedNames
 pub mod Reprinted
 pub mod PrintedTwice
+pub mod RulesKept

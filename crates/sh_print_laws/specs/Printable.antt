@@ -1,7 +1,8 @@
 -- Modules that the printer may be asked to print: those whose text is read as a module alike.
-use Rattle.std.specs.Prelude.{◌≡◌, ◌+◌, ◌<◌, ◌^◌, ℕ, List, ◌++◌, IsTrue, flat_map, length, map, option_to_list}
+use Rattle.std.specs.Prelude.{◌<◌, ◌^◌, ℕ, List, ◌++◌, IsTrue, flat_map, length, map, option_to_list}
 use Rattle.std.specs.List.{AllByRecursion, list_all}
 use Rattle.sh_ir.specs.Formed.{IsFormed, all_written, bodies_in, constants_of, func_names, ops_of}
+use Rattle.sh_ir.specs.Numbers.{are_distinct}
 use Rattle.sh_ir.specs.Regions.{is_among, own_names}
 use Rattle.sh_ir.specs.declared.bodies.Body.{Body}
 use Rattle.sh_ir.specs.declared.functions.Func.{Func}
@@ -9,7 +10,6 @@ use Rattle.sh_ir.specs.declared.linalg_ops.AffineMap.{AffineMap}
 use Rattle.sh_ir.specs.declared.modules.Module.{Module}
 use Rattle.sh_alike.specs.Alike.{AreAlike}
 use Rattle.sh_parse.specs.Reads.{Reads}
-use Rattle.sh_print.specs.Values.{each_once}
 use Rattle.sh_print_laws.specs.ReadsBack.{is_whole}
 
 -- the names that a function defines
@@ -23,7 +23,7 @@ pub record IsNamed (f : Func) : Type 0 where
 
 -- a region has no two block arguments of one name, and defines fewer than 2^64 names
 pub record IsRegionNamed (body : Body) : Type 0 where
-  pub distinct : each_once body.args ≡ body.args
+  pub distinct : IsTrue (are_distinct body.args)
   pub few : length (own_names body) < 2 ^ 64
 
 -- the words of a map are numbered below 2^64

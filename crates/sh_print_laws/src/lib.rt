@@ -8,7 +8,7 @@
 //! where they stand, and each name may have any number that goes by its text.
 #![tactic(auto)]
 
-ghost use Rattle.std.specs.Prelude.{◌≡◌, ℕ, List, map, true, IsTrue, Some};
+ghost use Rattle.std.specs.Prelude.{◌≡◌, ℕ, [], ◌∷◌, List, map, true, IsTrue, Some};
 ghost use Rattle.sh_alike.specs.Alike.{AreAlike};
 ghost use Rattle.sh_base.specs.declared.places.Place.{Place};
 ghost use Rattle.sh_build.specs.Meaning.{side};
@@ -20,6 +20,7 @@ ghost use Rattle.sh_ir.specs.declared.modules.Module.{Module};
 ghost use Rattle.sh_ir.specs.declared.operations.OpKind.{OpKind};
 ghost use Rattle.sh_ir.specs.declared.types.ValueType.{ValueType};
 ghost use Rattle.sh_parse.specs.Reads.{Reads};
+ghost use Rattle.sh_print.specs.Examples.{call_of_sum, sum_module};
 ghost use Rattle.sh_print.specs.Spellings.{type_pieces};
 ghost use Rattle.sh_print.specs.Tokens.{kind_pieces, op_pieces, text_of};
 ghost use Rattle.sh_print.specs.Values.{Scope};
@@ -32,6 +33,11 @@ ghost use Rattle.sh_print_laws.specs.TokensOf.{AreTokensOf};
 /// numbering of values, function by function, no two names of which become one.
 pub fn modules_read_back()
     ensures { (m : Module) → IsPrintable m → IsReadAlike m (text_of m) }
+{}
+
+/// A sum of two vectors on two devices, called once, is printable.
+pub fn printable_example()
+    ensures { IsPrintable (sum_module (call_of_sum ∷ [])) }
 {}
 
 /// Modules that are alike are printed as one text.
