@@ -134,3 +134,121 @@ module _ (rule : Rule) where
   calls_kept (d ∷ calls) e c (inl same) = subst (λ x. keeps_call rule x ≡ true) (sym same)
       (kept_at d.place rule (λ r. keeps_call r d) (neither (faults_at d.place (rule ∷ []) (λ r. keeps_call r d)) (call_faults (rule ∷ []) calls) e).0)
   calls_kept (d ∷ calls) e c (inr cm) = calls_kept calls (neither (faults_at d.place (rule ∷ []) (λ r. keeps_call r d)) (call_faults (rule ∷ []) calls) e).1 c cm
+
+-- ## Literals
+
+whole_kind : (scope : Scope) (k : OpKind) (t : ValueType) → numbers_fit scope k t ≡ true → list_all is_whole (written_by k).constants ≡ true
+unfolding numbers_fit
+whole_kind scope (op_kind.Constant c) t h = and_from (is_whole c) true h refl
+whole_kind scope _ t h = refl
+
+whole_body_kind : (loops : ℕ) (k : BodyKind) → body_number_fits loops k ≡ true → list_all is_whole (written_in_body k).constants ≡ true
+unfolding body_number_fits
+whole_body_kind loops (body_kind.Constant c) h = and_from (is_whole c) true h refl
+whole_body_kind loops _ h = refl
+
+-- ## Names
+
+defined_first : (v : Value) (values : List Value) (a : ℕ) → is_defined (v ∷ values) a ≡ true → (v.name ≡ a) ⊎ (is_defined values a ≡ true)
+defined_first v values a h = elim (cases_Bool (nat_eq v.name a)) [
+  | inl e ↦ inl (eqb-true v.name a e)
+  | inr e ↦ inr (ap (λ b. is_some (if b then Some v else value_named values a)) (sym e) ∙ h)
+]
+
+-- the values have names of this list
+abbrev AreNamed : List Value → List ℕ → Type 0
+AreNamed values names = (a : ℕ) → is_defined values a ≡ true → Member a names
+
+named_args : (values : List Value) (args : List Arg) (names : List ℕ) → AreNamed values names → ((a : ℕ) → Member a (map (λ arg. arg.id) args) → Member a names) → AreNamed (with_args values args) names
+named_args values [] names h so = h
+named_args values (x ∷ args) names h so = named_args _ args names (λ a d. elim (defined_first _ values a d) [
+  | inl e ↦ so a (inl (sym e))
+  | inr e ↦ h a e
+]) (λ a m. so a (inr m))
+
+named_block : (values : List Value) (args : List ℕ) (ws : List Width) (names : List ℕ) → AreNamed values names → ((a : ℕ) → Member a args → Member a names) → AreNamed (with_block values args ws) names
+named_block values [] ws names h so = h
+named_block values (x ∷ args) [] names h so = h
+named_block values (x ∷ args) (w ∷ ws) names h so = named_block _ args ws names (λ a d. elim (defined_first _ values a d) [
+  | inl e ↦ so a (inl (sym e))
+  | inr e ↦ h a e
+]) (λ a m. so a (inr m))
+
+in_filter : (p : ℕ → Bool) (xs : List ℕ) (a : ℕ) → Member a (filter p xs) → Member a xs × (p a ≡ true)
+in_filter p [] a m = absurd m
+in_filter p (x ∷ xs) a m = elim (cases_Bool (p x)) [
+  | inl e ↦ kept e (subst (λ b. Member a (if b then x ∷ filter p xs else filter p xs)) e m) (in_filter p xs a)
+  | inr e ↦ let h = in_filter p xs a (subst (λ b. Member a (if b then x ∷ filter p xs else filter p xs)) e m) in (inr h.0, h.1)
+]
+  where
+    kept : p x ≡ true → Member a (x ∷ filter p xs) → (Member a (filter p xs) → Member a xs × (p a ≡ true)) → Member a (x ∷ xs) × (p a ≡ true)
+    kept e (inl same) again = (inl same, subst (λ y. p y ≡ true) (sym same) e)
+    kept e (inr m) again = let h = again m in (inr h.0, h.1)
+
+of_firsts : (xs : List ℕ) (a : ℕ) → Member a (first_occurrences xs) → Member a xs
+of_firsts [] a m = m
+of_firsts (x ∷ xs) a (inl e) = inl e
+of_firsts (x ∷ xs) a (inr m) = inr (of_firsts xs a (in_filter (λ other. not (nat_eq x other)) (first_occurrences xs) a m).0)
+
+-- a name that a region takes of its function is defined there
+outer_there : (known : List ℕ) (outer own : List Value) → AreNamed own known → (xs : List ℕ) → list_all (is_there outer own) xs ≡ true → (a : ℕ) → Member a (outside known xs) → is_defined outer a ≡ true
+outer_there known outer own named xs h a m =
+    let f = in_filter (λ name. not (is_among known name)) xs a m in
+    elim (or_cases (is_defined own a) (is_defined outer a) (of_test (is_there outer own) xs a h f.0)) [
+      | inl e ↦ absurd (true≢false (sym (member_among known a (named a e)) ∙ not_true (is_among known a) f.1))
+      | inr e ↦ e
+    ]
+
+region_names_there : (loops : ℕ) (outer own : List Value) (known : List ℕ) (ops : List BodyOp) (body : Body) → body_faults (V1 ∷ []) loops outer own ops body ≡ [] → AreNamed own known
+    → (a : ℕ) → Member a (outer_uses known ops body.yields) → is_defined outer a ≡ true
+unfolding keeps_in_region keeps_at_yield
+region_names_there loops outer own known [] body e named a m =
+    outer_there known outer own named (body.yields ∷ []) (and_from (is_there outer own body.yields) true (kept_at body.place V1 (λ r. keeps_at_yield r outer own body.yields) e) refl) a m
+region_names_there loops outer own known (y ∷ ops) body e named a m =
+    let both = neither (faults_at y.place (V1 ∷ []) (λ r. keeps_in_region r loops outer own y)) (body_faults (V1 ∷ []) loops outer (own_after own y) ops body) e in
+    elim (member_either (outside known y.operands) (outer_uses (y.defines ∷ known) ops body.yields) a m) [
+      | inl h ↦ outer_there known outer own named y.operands (kept_at y.place V1 (λ r. keeps_in_region r loops outer own y) both.0) a h
+      | inr h ↦ region_names_there loops outer (own_after own y) (y.defines ∷ known) ops body both.1 (λ b d. elim (defined_first _ own b d) [
+        | inl same ↦ inl (sym same)
+        | inr old ↦ inr (named b old)
+      ]) a h
+    ]
+
+-- ## The operands of an operation
+
+module _ (scope : Scope) (x : Op) (e : op_faults (V1 ∷ []) scope x ≡ []) (fit : OperandsFit (written_by x.kind) x.operands)
+    (captures : MatchOption (written_by x.kind).body ⊤ (λ body. drop (unwrap_or (written_by x.kind).operands 0) x.operands ≡ captured_by body)) where
+  both_kept : (list_all (is_defined scope.values) (written_operands x) ≡ true) × (region_faults (V1 ∷ []) scope x.kind ≡ [])
+  unfolding op_faults keeps uses_defined
+  both_kept = let both = neither (faults_at x.place (V1 ∷ []) (λ r. keeps r scope x)) (region_faults (V1 ∷ []) scope x.kind) e in (kept_at x.place V1 (λ r. keeps r scope x) both.0, both.1)
+
+  dropped_all : (n : ℕ) (xs : List ℕ) → length xs ≡ n + 0 → drop n xs ≡ []
+  dropped_all zero [] h = refl
+  dropped_all zero (y ∷ xs) h = absurd (omega arith)
+  dropped_all (suc n) [] h = refl
+  dropped_all (suc n) (y ∷ xs) h = dropped_all n xs (omega arith)
+
+  captured_there : (n : ℕ) → (written_by x.kind).operands ≡ Some n → (a : ℕ) → Member a (drop n x.operands) → is_defined scope.values a ≡ true
+  captured_there n is a m = by (written_by x.kind).body refl captures
+    where
+      by : (o : Option Body) → (written_by x.kind).body ≡ o → MatchOption o ⊤ (λ body. drop (unwrap_or (written_by x.kind).operands 0) x.operands ≡ captured_by body) → is_defined scope.values a ≡ true
+      by None none c =
+          let count : length x.operands ≡ n + length (option_map_or captured_by (written_by x.kind).body []) = subst (λ o. MatchOption o ⊤ (λ count. length x.operands ≡ count + length (option_map_or captured_by (written_by x.kind).body []))) is fit in
+          absurd (subst (Member a) (dropped_all n x.operands (count ∙ ap (λ o. n + length (option_map_or captured_by o [])) none)) m)
+      by (Some body) some c =
+          let listed : drop n x.operands ≡ captured_by body = ap (λ o. drop (unwrap_or o 0) x.operands) (sym is) ∙ c in
+          region_names_there (loop_count x.kind) scope.values (block_of body) body.args body.ops body (region_kept V1 scope x.kind body some both_kept.1)
+          (named_block [] body.args body.widths body.args (λ b d. absurd (let no : false ≡ true = d in cc)) (λ b bm. bm)) a
+          (of_firsts (outer_uses body.args body.ops body.yields) a (subst (Member a) listed m))
+
+  operand_there : (a : ℕ) → Member a x.operands → is_defined scope.values a ≡ true
+  operand_there a m = by (written_by x.kind).operands refl
+    where
+      by : (o : Option ℕ) → (written_by x.kind).operands ≡ o → is_defined scope.values a ≡ true
+      by None none = of_test (is_defined scope.values) x.operands a
+          (ap (λ o. list_all (is_defined scope.values) (option_map_or (λ count. take count x.operands) o x.operands)) (sym none) ∙ both_kept.0) m
+      by (Some n) some = elim (member_either (take n x.operands) (drop n x.operands) a (subst (Member a) (sym (take-append-drop n x.operands)) m)) [
+        | inl h ↦ of_test (is_defined scope.values) (take n x.operands) a
+            (ap (λ o. list_all (is_defined scope.values) (option_map_or (λ count. take count x.operands) o x.operands)) (sym some) ∙ both_kept.0) h
+        | inr h ↦ captured_there n some a h
+      ]
