@@ -1,7 +1,7 @@
 -- A formed module that keeps the rules on names and literals is printable, if it isn't too large.
 use Rattle.std.proofs.Common.{◌≡◌, ◌∙◌, ◌⊎◌, inl, inr, ◌+◌, ◌||◌, ◌&&◌, ℕ, zero, suc, Bool, true, false, not, nat_eq, List, [], ◌∷◌, ◌++◌, map, take, drop, length, Option, Some, None, refl, ap, sym, subst, arith, if◌then◌else◌, true≢false}
 use Rattle.std.specs.Prelude.{IsTrue, MatchOption, ⊤, filter, flat_map, is_some, option_to_list, unwrap_or}
-use Rattle.std.specs.List.{AllByRecursion, list_all}
+use Rattle.std.specs.List.{AllByRecursion, cons_option, list_all}
 use Rattle.std.specs.Option.{option_map_or}
 use Rattle.std.proofs.lemmas.Bool.{and_from, cases_Bool, eqb-true, or_cases, or_left, or_right}
 use Rattle.std.proofs.lemmas.List.{take-append-drop}
@@ -19,7 +19,7 @@ use Rattle.sh_ir.specs.Numbers.{are_distinct}
 use Rattle.sh_ir.specs.RegionRules.{block_of, body_number_fits, is_there, keeps_at_yield, keeps_in_region, own_after, with_block}
 use Rattle.sh_ir.specs.Regions.{captured_by, first_occurrences, is_among, outer_uses, outside, own_names}
 use Rattle.sh_ir.specs.Rules.{KeepsOps, body_faults, defines_new, faults_at, keeps, loop_count, op_faults, ops_faults, refusal_at, region_faults, uses_defined}
-use Rattle.sh_ir.specs.Scope.{Scope, Value, is_defined, scope_after, scope_of, value_named, values_after, with_args}
+use Rattle.sh_ir.specs.Scope.{Scope, Value, is_defined, scope_after, scope_of, value_named, value_of, values_after, with_args}
 use Rattle.sh_ir.specs.Typing.{written_operands}
 use Rattle.sh_ir.specs.Written.{Written, written_by, written_in_body}
 use Rattle.sh_ir.specs.declared.arith_ops.Constant as constant
@@ -35,7 +35,7 @@ use Rattle.sh_ir.specs.declared.operations.Op.{Op}
 use Rattle.sh_ir.specs.declared.operations.OpKind.{OpKind}
 use Rattle.sh_ir.specs.declared.operations.OpKind.TheVariants as op_kind
 use Rattle.sh_ir.specs.declared.types.ValueType.{ValueType}
-use Rattle.sh_print_laws.specs.Printable.{IsNamed, IsPrintable, IsRegionNamed, names_defined}
+use Rattle.sh_print_laws.specs.Printable.{HasFewNames, IsNamed, IsPrintable, IsRegionNamed, names_defined}
 use Rattle.sh_print_laws.specs.ReadsBack.{is_whole}
 use Rattle.sh_print_laws.proofs.Members.{Member, all_of, in_first, in_flat, in_map, in_second, of_all, of_test}
 use Rattle.sh_print_laws.proofs.PrintableNames.{among_member, member_among, member_either, not_true}
@@ -79,21 +79,20 @@ origin g (x ∷ xs) y m = elim (member_either (g x) (flat_map g xs) y m) [
 
 module _ (rule : Rule) where
   -- where an operation stands
-  record Stands (scope : Scope) (x : Op) : Type 0 where
+  record Stands (x : Op) : Type 0 where
     pub at : Scope
     pub kept : keeps rule at x ≡ true
     pub region : region_faults (rule ∷ []) at x.kind ≡ []
 
-  stands : (scope : Scope) (ops : List Op) → KeepsOps rule scope ops → (x : Op) → Member x ops → Stands scope x
+  stands : (scope : Scope) (ops : List Op) → KeepsOps rule scope ops → (x : Op) → Member x ops → Stands x
   unfolding op_faults
   stands scope [] e x m = absurd m
   stands scope (y ∷ ops) e x (inl same) =
       let both = neither (op_faults (rule ∷ []) scope y) (ops_faults (rule ∷ []) (scope_after scope y) ops) e in
       let parts = neither (faults_at y.place (rule ∷ []) (λ r. keeps r scope y)) (region_faults (rule ∷ []) scope y.kind) both.0 in
-      subst (Stands scope) (sym same) (record { at = scope; kept = kept_at y.place rule (λ r. keeps r scope y) parts.0; region = parts.1 })
+      subst Stands (sym same) (record { at = scope; kept = kept_at y.place rule (λ r. keeps r scope y) parts.0; region = parts.1 })
   stands scope (y ∷ ops) e x (inr m) =
-      let s = stands (scope_after scope y) ops (neither (op_faults (rule ∷ []) scope y) (ops_faults (rule ∷ []) (scope_after scope y) ops) e).1 x m in
-      record { at = s.at; kept = s.kept; region = s.region }
+      stands (scope_after scope y) ops (neither (op_faults (rule ∷ []) scope y) (ops_faults (rule ∷ []) (scope_after scope y) ops) e).1 x m
 
   -- where an operation of a region stands
   record StandsInside (x : BodyOp) : Type 0 where
@@ -252,3 +251,136 @@ module _ (scope : Scope) (x : Op) (e : op_faults (V1 ∷ []) scope x ≡ []) (fi
             (ap (λ o. list_all (is_defined scope.values) (option_map_or (λ count. take count x.operands) o x.operands)) (sym some) ∙ both_kept.0) h
         | inr h ↦ captured_there n some a h
       ]
+
+-- ## The names of a function
+
+-- what being formed says of an operation
+record IsListed (x : Op) : Type 0 where
+  pub fit : OperandsFit (written_by x.kind) x.operands
+  pub captures : MatchOption (written_by x.kind).body ⊤ (λ body. drop (unwrap_or (written_by x.kind).operands 0) x.operands ≡ captured_by body)
+
+named_after : (values : List Value) (x : Op) (names : List ℕ) → AreNamed values names → ((a : ℕ) → Member a (option_to_list x.defines) → Member a names) → AreNamed (values_after values x) names
+named_after values x names h so = by x.defines refl
+  where
+    by : (o : Option ℕ) → x.defines ≡ o → AreNamed (option_map_or (λ name. value_of x name ∷ values) o values) names
+    by None e = h
+    by (Some id) e = λ a d. elim (defined_first (value_of x id) values a d) [
+      | inl same ↦ so a (subst (λ o. Member a (option_to_list o)) (sym e) (inl (sym same)))
+      | inr old ↦ h a old
+    ]
+
+operands_named : (names : List ℕ) (scope : Scope) (ops : List Op) → KeepsOps V1 scope ops → AreNamed scope.values names → ((y : Op) → Member y ops → IsListed y)
+    → ((a : ℕ) → Member a (flat_map (λ op. option_to_list op.defines) ops) → Member a names) → (x : Op) → Member x ops → (a : ℕ) → Member a x.operands → Member a names
+operands_named names scope [] e named listed so x xm a am = absurd xm
+operands_named names scope (y ∷ ops) e named listed so x (inl same) a am =
+    let both = neither (op_faults (V1 ∷ []) scope y) (ops_faults (V1 ∷ []) (scope_after scope y) ops) e in
+    let l = listed y (inl refl) in
+    named a (operand_there scope y both.0 l.fit l.captures a (subst (λ z. Member a z.operands) same am))
+operands_named names scope (y ∷ ops) e named listed so x (inr xm) a am =
+    let both = neither (op_faults (V1 ∷ []) scope y) (ops_faults (V1 ∷ []) (scope_after scope y) ops) e in
+    operands_named names (scope_after scope y) ops both.1
+    (named_after scope.values y names named (λ b bm. so b (in_first (option_to_list y.defines) (flat_map (λ op. option_to_list op.defines) ops) b bm)))
+    (λ z zm. listed z (inr zm)) (λ b bm. so b (in_second (option_to_list y.defines) (flat_map (λ op. option_to_list op.defines) ops) b bm)) x xm a am
+
+-- ## Members by their origins
+
+record MapOrigin {X Y : Type 0} (g : X → Y) (xs : List X) (y : Y) : Type 0 where
+  pub from : X
+  pub there : Member from xs
+  pub is : y ≡ g from
+
+map_origin : {X Y : Type 0} (g : X → Y) (xs : List X) (y : Y) → Member y (map g xs) → MapOrigin g xs y
+map_origin g [] y m = absurd m
+map_origin g (x ∷ xs) y (inl e) = record { from = x; there = inl refl; is = e }
+map_origin g (x ∷ xs) y (inr m) = let o = map_origin g xs y m in record { from = o.from; there = inr o.there; is = o.is }
+
+-- the operation whose region it is
+record RegionOrigin (ops : List Op) (body : Body) : Type 0 where
+  pub from : Op
+  pub there : Member from ops
+  pub is : (written_by from.kind).body ≡ Some body
+
+region_origin : (ops : List Op) (body : Body) → Member body (bodies_in ops) → RegionOrigin ops body
+region_origin [] body m = absurd m
+region_origin (x ∷ ops) body m = by (written_by x.kind).body refl m (region_origin ops body)
+  where
+    by : (o : Option Body) → (written_by x.kind).body ≡ o → Member body (cons_option o (bodies_in ops)) → (Member body (bodies_in ops) → RegionOrigin ops body) → RegionOrigin (x ∷ ops) body
+    by None e m again = let o = again m in record { from = o.from; there = inr o.there; is = o.is }
+    by (Some other) e (inl same) again = record { from = x; there = inl refl; is = e ∙ ap Some (sym same) }
+    by (Some other) e (inr m) again = let o = again m in record { from = o.from; there = inr o.there; is = o.is }
+
+-- ## Modules
+
+module _ (m : Module) (formed : IsFormed m) where
+  stands_in_module : (rule : Rule) → KeepsModule rule m → (x : Op) → Member x (ops_of m) → Stands rule x
+  stands_in_module rule kept x xm =
+      let o = origin (λ f. f.ops) m.funcs x xm in
+      stands rule (scope_of m o.from) o.from.ops (funcs_kept rule m [] m.funcs (parts_kept rule m kept).0 o.from o.there) x o.is
+
+  distinct_args : KeepsModule V2 m → (body : Body) → Member body (bodies_in (ops_of m)) → are_distinct body.args ≡ true
+  unfolding keeps defines_new
+  distinct_args kept body bm =
+      let o = region_origin (ops_of m) body bm in
+      let s = stands_in_module V2 kept o.from o.there in
+      ap (λ r. option_map_or (λ body. are_distinct body.args) r true) (sym o.is) ∙ (and_parts _ (option_map_or (λ body. are_distinct body.args) (written_by o.from.kind).body true) s.kept).1
+
+  whole_op : KeepsModule V5 m → (x : Op) → Member x (ops_of m) → list_all is_whole (written_by x.kind).constants ≡ true
+  unfolding keeps
+  whole_op kept x xm = let s = stands_in_module V5 kept x xm in whole_kind s.at x.kind x.result s.kept
+
+  whole_body_op : KeepsModule V5 m → (y : BodyOp) → Member y (body_ops_of m) → list_all is_whole (written_in_body y.kind).constants ≡ true
+  unfolding keeps_in_region
+  whole_body_op kept y ym =
+      let b = origin (λ body. body.ops) (bodies_in (ops_of m)) y ym in
+      let o = region_origin (ops_of m) b.from b.there in
+      let s = stands_in_module V5 kept o.from o.there in
+      let t = stands_inside V5 (loop_count o.from.kind) s.at.values (block_of b.from) b.from.ops b.from (region_kept V5 s.at o.from.kind b.from o.is s.region) y b.is in
+      whole_body_kind t.loops y.kind t.kept
+
+  whole_call : KeepsModule V5 m → (c : CallItem) → Member c m.calls → list_all is_whole c.args ≡ true
+  unfolding keeps_call
+  whole_call kept c cm = calls_kept V5 m.calls (parts_kept V5 m kept).1 c cm
+
+  whole_texts : KeepsModule V5 m → (w : Written) → Member w (all_written m) → list_all is_whole w.constants ≡ true
+  whole_texts kept w wm = elim (member_either (op_texts (ops_of m)) (map (λ op. written_in_body op.kind) (body_ops_of m)) w wm) [
+    | inl h ↦ let o = map_origin (λ op. written_by op.kind) (ops_of m) w h in ap (λ x. list_all is_whole x.constants) o.is ∙ whole_op kept o.from o.there
+    | inr h ↦ let o = map_origin (λ op. written_in_body op.kind) (body_ops_of m) w h in ap (λ x. list_all is_whole x.constants) o.is ∙ whole_body_op kept o.from o.there
+  ]
+
+  all_whole : KeepsModule V5 m → list_all is_whole (constants_of m) ≡ true
+  all_whole kept = list_all-append is_whole (flat_map (λ x. x.constants) (all_written m)) (call_constants m)
+      ∙ and_from (list_all is_whole (flat_map (λ x. x.constants) (all_written m))) (list_all is_whole (call_constants m))
+      (parts_all is_whole (λ x. x.constants) (all_written m) (whole_texts kept)) (parts_all is_whole (λ c. c.args) m.calls (whole_call kept))
+
+  all_defined : KeepsModule V1 m → (f : Func) → Member f m.funcs → list_all (is_among (names_defined f)) (func_names f) ≡ true
+  all_defined kept f fm = tests_all (is_among (names_defined f)) (func_names f) (λ a am. member_among (names_defined f) a (named a am))
+    where
+      ids : List ℕ
+      ids = map (λ arg. arg.id) f.args
+
+      defines : List ℕ
+      defines = flat_map (λ op. option_to_list op.defines) f.ops
+
+      listed : (x : Op) → Member x f.ops → IsListed x
+      listed x xm = let there = in_flat (λ f. f.ops) m.funcs f x fm xm in record { fit = of_all _ (ops_of m) x formed.operands there; captures = of_all _ (ops_of m) x formed.captures there }
+
+      named : (a : ℕ) → Member a (func_names f) → Member a (names_defined f)
+      named a am = elim (member_either ids (flat_map (λ op. op.operands ++ option_to_list op.defines) f.ops) a am) [
+        | inl h ↦ in_first ids defines a h
+        | inr h ↦ let o = origin (λ op. op.operands ++ option_to_list op.defines) f.ops a h in
+            elim (member_either o.from.operands (option_to_list o.from.defines) a o.is) [
+              | inl g ↦ operands_named (names_defined f) (scope_of m f) f.ops (funcs_kept V1 m [] m.funcs (parts_kept V1 m kept).0 f fm)
+                  (named_args [] f.args (names_defined f) (λ b d. absurd (let no : false ≡ true = d in cc)) (λ b bm. in_first ids defines b bm)) listed
+                  (λ b bm. in_second ids defines b bm) o.from o.there a g
+              | inr g ↦ in_second ids defines a (in_flat (λ op. option_to_list op.defines) f.ops o.from a o.there g)
+            ]
+      ]
+
+pub kept_printable : (m : Module) → IsFormed m → KeepsModule V1 m → KeepsModule V2 m → KeepsModule V5 m → HasFewNames m → IsPrintable m
+kept_printable m formed names new literals few = record {
+  formed = formed;
+  whole = all_whole m formed literals;
+  names = all_of IsNamed m.funcs (λ f fm. record { defined = all_defined m formed names f fm; few = of_all _ m.funcs f few.names fm });
+  regions = all_of IsRegionNamed (bodies_in (ops_of m)) (λ body bm. record { distinct = distinct_args m formed new body bm; few = of_all _ (bodies_in (ops_of m)) body few.regions bm });
+  words = few.words;
+}

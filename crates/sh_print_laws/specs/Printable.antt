@@ -37,6 +37,12 @@ pub record IsPrintable (m : Module) : Type 0 where
   pub regions : AllByRecursion IsRegionNamed (bodies_in (ops_of m))
   pub words : AllByRecursion HasFewWords (flat_map (λ x. x.maps) (all_written m))
 
+-- Fewer than 2^64 names of each function, region and map.
+pub record HasFewNames (m : Module) : Type 0 where
+  pub names : AllByRecursion (λ f. length (names_defined f) < 2 ^ 64) m.funcs
+  pub regions : AllByRecursion (λ body. length (own_names body) < 2 ^ 64) (bodies_in (ops_of m))
+  pub words : AllByRecursion HasFewWords (flat_map (λ x. x.maps) (all_written m))
+
 -- The text stands for a module, which is alike.
 pub record IsReadAlike (m : Module) (text : List ℕ) : Type 0 where
   pub found : Module

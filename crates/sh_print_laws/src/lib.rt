@@ -11,9 +11,11 @@
 ghost use Rattle.std.specs.Prelude.{◌≡◌, ℕ, [], ◌∷◌, List, map, true, IsTrue, Some};
 ghost use Rattle.sh_alike.specs.Alike.{AreAlike};
 ghost use Rattle.sh_base.specs.declared.places.Place.{Place};
+ghost use Rattle.sh_base.specs.declared.rules.Rule.TheVariants.{V1, V2, V5};
 ghost use Rattle.sh_build.specs.Meaning.{side};
 ghost use Rattle.sh_grammar.specs.Lexemes.{Lexeme};
 ghost use Rattle.sh_grammar.specs.declared.forms.Form.TheVariants.{RightSide, ValueType as TypeForm};
+ghost use Rattle.sh_ir.specs.Faults.{KeepsModule};
 ghost use Rattle.sh_ir.specs.Formed.{IsFormed, is_spelled_type};
 ghost use Rattle.sh_ir.specs.Parts.{op_of};
 ghost use Rattle.sh_ir.specs.declared.modules.Module.{Module};
@@ -24,7 +26,7 @@ ghost use Rattle.sh_print.specs.Examples.{call_of_sum, sum_module};
 ghost use Rattle.sh_print.specs.Spellings.{type_pieces};
 ghost use Rattle.sh_print.specs.Tokens.{kind_pieces, op_pieces, text_of};
 ghost use Rattle.sh_print.specs.Values.{Scope};
-ghost use Rattle.sh_print_laws.specs.Printable.{IsPrintable, IsReadAlike};
+ghost use Rattle.sh_print_laws.specs.Printable.{HasFewNames, IsPrintable, IsReadAlike};
 ghost use Rattle.sh_print_laws.specs.ReadsBack.{IsOperationRead, IsWritten, ReadBack, by_names};
 ghost use Rattle.sh_print_laws.specs.ReadsBack.{is_simple, type_part};
 ghost use Rattle.sh_print_laws.specs.TokensOf.{AreTokensOf};
@@ -33,6 +35,14 @@ ghost use Rattle.sh_print_laws.specs.TokensOf.{AreTokensOf};
 /// numbering of values, function by function, no two names of which become one.
 pub fn modules_read_back()
     ensures { (m : Module) → IsPrintable m → IsReadAlike m (text_of m) }
+{}
+
+/// A formed module that keeps the rules on names and literals is printable, if it has fewer than 2^64
+/// names: each is defined before it is used (`V1`), no block argument twice (`V2`), and each literal
+/// fits its type (`V5`).
+pub fn kept_rules_printable()
+    ensures { (m : Module) → IsFormed m → KeepsModule V1 m → KeepsModule V2 m → KeepsModule V5 m
+        → HasFewNames m → IsPrintable m }
 {}
 
 /// A sum of two vectors on two devices, called once, is printable.
