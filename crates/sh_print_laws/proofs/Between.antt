@@ -1,11 +1,11 @@
 -- Where operations begin and end.
-use Rattle.std.proofs.Common.{◌≡◌, ◌∙◌, ◌<◌, ◌≤◌, ◌&&◌, ◌||◌, ℕ, Bool, true, false, not, nat_eq, List, [], ◌∷◌, refl, ap, sym, subst, arith}
+use Rattle.std.proofs.Common.{◌≡◌, ◌∙◌, ◌<◌, ◌≤◌, ◌&&◌, ◌||◌, ℕ, Bool, true, false, not, nat_eq, List, [], ◌∷◌, refl, ap, arith}
 use Rattle.std.specs.List.{AllByRecursion, list_any}
 use Rattle.std.proofs.lemmas.Bool.{eqb-true}
 use Rattle.sh_grammar.specs.declared.forms.Form.TheVariants as forms
 use Rattle.sh_names.specs.Names.{Mention, is_own, same_text}
 use Rattle.sh_names.specs.declared.scopes.Role.TheVariants as role
-use Rattle.sh_print_laws.proofs.Standing.{IsBelow, Mentioned, Spot, Standing, among, defines_by, owns}
+use Rattle.sh_print_laws.proofs.Standing.{IsBelow, Mentioned, Spot, Standing, defines_by, owns}
 use Rattle.sh_print_laws.proofs.Walks.{State, enter}
 
 -- Between two operations of a function.

@@ -1,37 +1,21 @@
 -- The operations of a region, and the region.
-use Rattle.std.proofs.Common.{◌≡◌, ◌∙◌, ◌<◌, ◌^◌, ◌⊎◌, inl, inr, ℕ, zero, suc, Bool, true, false, not, ◌&&◌, ◌||◌, nat_eq, List, [], ◌∷◌, ◌++◌, map, Option, Some, None, refl, ap, sym, subst, arith as arithmetic, append_assoc, if◌then◌else◌}
-use Rattle.std.specs.Prelude.{flat_map, IsTrue, pos}
-use Rattle.std.specs.List.{AllByRecursion, list_any}
-use Rattle.std.proofs.lemmas.Bool.{cases_Bool, eq-eqb, ltb-true, or_cases, or_left, or_right}
-use Rattle.std.proofs.lemmas.List.Folds.{list_any-append}
-use Rattle.std.specs.Cmp.Lexicographic as text
-use Rattle.sh_alike.specs.Renamed.{no_place, renamed_body_op}
-use Rattle.sh_base.specs.declared.numbers.Width.{Width}
-use Rattle.sh_base.specs.declared.places.Place.{Place}
+use Rattle.std.proofs.Common.{◌≡◌, ◌^◌, ℕ, true, false, List, [], ◌∷◌, map, refl, sym, subst}
+use Rattle.std.specs.Prelude.{pos}
+use Rattle.std.proofs.lemmas.Bool.{ltb-true}
 use Rattle.sh_build.specs.Meaning.{arith, made}
-use Rattle.sh_build.specs.Readings.{body_op_in, tail_in}
-use Rattle.sh_build.specs.declared.parts.Part.{Part}
-use Rattle.sh_build.specs.declared.parts.Part.TheVariants as part
-use Rattle.sh_grammar.specs.Language as grammar
 use Rattle.sh_grammar.specs.declared.forms.Form.{Form}
 use Rattle.sh_grammar.specs.declared.forms.Form.TheVariants as forms
-use Rattle.sh_grammar.specs.declared.symbols.Symbol.TheVariants as symbol
 use Rattle.sh_grammar.specs.Lexemes.{Lexeme}
 use Rattle.sh_ir.specs.Formed.{is_on_index, is_scalar, is_spelled, is_spelled_type}
 use Rattle.sh_ir.specs.Literals.{is_held}
-use Rattle.sh_ir.specs.Regions.{is_among, outer_uses, outside}
 use Rattle.sh_ir.specs.Written.{written_in_body}
 use Rattle.sh_ir.specs.declared.bodies.BodyKind.{BodyKind}
 use Rattle.sh_ir.specs.declared.bodies.BodyKind.TheVariants as body_kind
-use Rattle.sh_ir.specs.declared.bodies.BodyOp.{BodyOp}
 use Rattle.sh_ir.specs.declared.types.ValueType.{ValueType}
 use Rattle.sh_ir.specs.declared.types.ValueType.TheVariants as type
-use Rattle.sh_literals.specs.Fronts.{before}
-use Rattle.sh_names.specs.Names.{Owned, same_text}
-use Rattle.sh_names.specs.declared.scopes.Role.TheVariants as role
 use Rattle.sh_print.specs.Layout.{Piece}
 use Rattle.sh_print.specs.Spellings.{type_pieces, width}
-use Rattle.sh_print.specs.Tokens.{body_kind_pieces, body_op_pieces, index_cast_pieces, index_pieces, inner, yield_pieces}
+use Rattle.sh_print.specs.Tokens.{body_kind_pieces, index_cast_pieces, index_pieces, inner}
 use Rattle.sh_print.specs.Values.{Scope, name_inside, name_text}
 use Rattle.sh_print_laws.specs.ReadsBack.{AreWritten, is_whole}
 use Rattle.sh_print_laws.proofs.ArithForms.{binary_spelled, cast_spelled, compare_spelled, select_spelled}
@@ -39,9 +23,7 @@ use Rattle.sh_print_laws.proofs.DenseForms.{literal_spelled, not_broken}
 use Rattle.sh_print_laws.proofs.Keywords as keyword
 use Rattle.sh_print_laws.proofs.KindForms.{first, none_of, one_of, second, three_of, two_of}
 use Rattle.sh_print_laws.proofs.PlainForms.{then_number, width_spelled}
-use Rattle.sh_print_laws.proofs.RegionSteps.{enters_yield, opens_generic, opens_operation, own_name, own_number, with_own}
-use Rattle.sh_print_laws.proofs.Rows.{FormTo, Gives, Naming, by_row, by_row_entered, end_row, last_form, last_is, row_by, then_form, then_is, then_line_end, then_named, then_token, then_value}
-use Rattle.sh_print_laws.proofs.Standing.{Spot, Standing, among, naming, num_by, owned}
+use Rattle.sh_print_laws.proofs.Rows.{Gives, Naming, by_row, end_row, last_is, then_token, then_value}
 use Rattle.sh_print_laws.proofs.Walks.{State}
 
 -- ## What an operation of a region is

@@ -1,14 +1,13 @@
 -- Literals, and constants of them.
-use Rattle.std.proofs.Common.{◌≡◌, ◌∙◌, ◌<◌, ◌≤◌, ◌+◌, ◌-◌, ◌*◌, ◌^◌, ℕ, zero, suc, Bool, true, false, not, ◌&&◌, ◌||◌, cond, nat_eq, nat_lt, nat_le, List, [], ◌∷◌, ◌++◌, map, take, drop, length, reverse, Option, Some, None, refl, ap, sym, subst, arith, codes, if◌then◌else◌, true≢false, ltb-true, ltb-false, lt-ltb}
-use Rattle.std.specs.Prelude.{ℤ, pos, negsuc, ◌-ℤ◌, int_lt, unsigned_abs, option_map, IsTrue, slice_get}
-use Rattle.std.specs.List.{AllByRecursion, list_all, list_any}
-use Rattle.std.specs.Option.{option_map_or}
+use Rattle.std.proofs.Common.{◌≡◌, ◌∙◌, ◌<◌, ◌≤◌, ◌+◌, ◌-◌, ◌*◌, ◌^◌, ℕ, zero, suc, Bool, true, false, not, nat_eq, nat_lt, List, [], ◌∷◌, ◌++◌, map, take, drop, length, Some, refl, ap, sym, arith, if◌then◌else◌, ltb-true, ltb-false, lt-ltb}
+use Rattle.std.specs.Prelude.{ℤ, pos, negsuc, ◌-ℤ◌, option_map}
+use Rattle.std.specs.List.{AllByRecursion, list_all}
 use Rattle.std.specs.Cmp.Lexicographic.{pointwise}
 use Rattle.std.proofs.Math.Dec.{eqb-suc-zero}
-use Rattle.std.proofs.lemmas.Bool.{eqb-true, eq-eqb, le-leb}
+use Rattle.std.proofs.lemmas.Bool.{le-leb}
 use Rattle.std.proofs.lemmas.Cmp.{nat_list_eq_equiv}
 use Rattle.std.proofs.lemmas.Int.{ints}
-use Rattle.std.proofs.lemmas.List.{append-nil, take-append-drop, map-append}
+use Rattle.std.proofs.lemmas.List.{take-append-drop, map-append}
 use Rattle.std.proofs.lemmas.List.Folds.{list_all-append}
 use Rattle.sh_base.specs.Cells.{bits_of}
 use Rattle.sh_base.specs.declared.numbers.Cell.{Cell}
@@ -20,22 +19,15 @@ use Rattle.sh_build.specs.declared.parts.Part.TheVariants as part
 use Rattle.sh_grammar.specs.Lexemes.{Lexeme}
 use Rattle.sh_grammar.specs.declared.forms.Form.TheVariants as forms
 use Rattle.sh_ir.specs.Formed.{is_spelled}
-use Rattle.sh_ir.specs.Literals.{are_equal, are_held, are_short, fills, is_literal_cell, is_zero, known_count}
-use Rattle.sh_ir.specs.Shapes.{extent_of}
-use Rattle.sh_ir.specs.declared.types.Dim.{Dim}
-use Rattle.sh_ir.specs.declared.types.Dim.TheVariants.{Known, Differs}
-use Rattle.sh_ir.specs.declared.types.TensorType.{TensorType}
-use Rattle.sh_ir.specs.declared.arith_ops.Contents.{Contents}
-use Rattle.sh_ir.specs.declared.arith_ops.Contents.TheVariants.{Held, Broken}
-use Rattle.sh_literals.specs.LiteralCells.{are_extents, cell_of, cells_of, fills_or_fits, has_none, held, in_front, no_list, number_cell, shortened, single, tensor_contents}
+use Rattle.sh_ir.specs.Literals.{is_literal_cell}
+use Rattle.sh_literals.specs.LiteralCells.{cell_of, cells_of, in_front, no_list, number_cell, single}
 use Rattle.sh_literals.specs.declared.literals.Element.{Element}
 use Rattle.sh_literals.specs.declared.literals.Element.TheVariants.{Number, Truth}
 use Rattle.sh_literals.specs.declared.literals.Literal.{Literal}
-use Rattle.sh_literals.specs.declared.literals.Literal.TheVariants.{Empty, Nested}
-use Rattle.sh_print.specs.Layout.{Piece}
+use Rattle.sh_literals.specs.declared.literals.Literal.TheVariants.{Nested}
 use Rattle.sh_print.specs.Spellings.{cell_pieces, number_pieces, signed_below, signed_value, word}
 use Rattle.sh_print_laws.proofs.Keywords as keyword
-use Rattle.sh_print_laws.proofs.ListForms.{AreItems, IsListForm, list_spelled}
+use Rattle.sh_print_laws.proofs.ListForms.{IsListForm, list_spelled}
 use Rattle.sh_print_laws.proofs.NestedCells.{ArePositive, nested, rows, size_of}
 use Rattle.sh_print_laws.proofs.PlainForms.{num_spelled}
 use Rattle.sh_print_laws.proofs.Rows.{Gives, Naming, by_row, end_row, last_is, then_is, then_token}

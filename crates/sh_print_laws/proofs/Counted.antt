@@ -1,10 +1,9 @@
 -- Where the forms of a reading begin, by counting tokens.
-use Rattle.std.proofs.Common.{◌≡◌, ◌∙◌, ◌+◌, ℕ, suc, List, [], ◌∷◌, ◌++◌, length, refl, ap, sym, arith, length-append}
+use Rattle.std.proofs.Common.{◌≡◌, ◌∙◌, ◌+◌, ℕ, suc, List, [], ◌∷◌, length, refl, ap, arith, length-append}
 use Rattle.sh_grammar.specs.Grammar.{Trees, tokens}
 use Rattle.sh_grammar.specs.Grammar.Trees.{form, nothing, token}
 use Rattle.sh_grammar.specs.Lexemes.{Lexeme}
 use Rattle.sh_grammar.specs.declared.forms.Form.{Form}
-use Rattle.sh_grammar.specs.declared.symbols.Symbol.{Symbol}
 use Rattle.sh_build.specs.declared.parts.Part.{Part}
 use Rattle.sh_print.specs.Layout.{Piece}
 use Rattle.sh_print.specs.Layout.Piece.{apart as piece_apart, closing as piece_closing, line_end as piece_line_end, opening as piece_opening, token as piece_token}

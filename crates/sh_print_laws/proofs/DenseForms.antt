@@ -1,9 +1,7 @@
 -- Dense literals and constants.
-use Rattle.std.proofs.Common.{◌≡◌, ◌∙◌, ◌<◌, ◌*◌, ◌^◌, ℕ, zero, suc, Bool, true, false, not, ◌&&◌, ◌||◌, nat_eq, List, [], ◌∷◌, ◌++◌, map, length, reverse, Option, Some, None, refl, ap, sym, subst, arith, if◌then◌else◌, true≢false, ltb-true}
-use Rattle.std.specs.Prelude.{IsTrue}
-use Rattle.std.specs.List.{AllByRecursion, list_all, list_any}
+use Rattle.std.proofs.Common.{◌≡◌, ◌∙◌, ◌<◌, ◌*◌, ◌^◌, ℕ, zero, suc, Bool, true, false, not, ◌&&◌, ◌||◌, nat_eq, List, [], ◌∷◌, ◌++◌, map, length, reverse, Option, Some, None, refl, ap, sym, subst, arith, if◌then◌else◌, ltb-true}
+use Rattle.std.specs.List.{list_all, list_any}
 use Rattle.std.specs.Option.{option_map_or}
-use Rattle.std.proofs.Math.Dec.{eqb-suc-zero}
 use Rattle.std.proofs.lemmas.Bool.{eqb-true, eq-eqb, or_parts, or_right}
 use Rattle.sh_base.specs.Cells.{bits_of}
 use Rattle.sh_base.specs.declared.numbers.Cell.{Cell}
@@ -16,8 +14,8 @@ use Rattle.sh_build.specs.declared.parts.Part.TheVariants as part
 use Rattle.sh_grammar.specs.Lexemes.{Lexeme}
 use Rattle.sh_grammar.specs.declared.forms.Form.TheVariants as forms
 use Rattle.sh_ir.specs.Formed.{is_spelled, is_spelled_type}
-use Rattle.sh_ir.specs.Literals.{are_equal, are_held, are_short, fills, is_broken, is_dense, is_held, is_literal_cell, is_zero, known_count}
-use Rattle.sh_ir.specs.Shapes.{extent_of, shape_of}
+use Rattle.sh_ir.specs.Literals.{are_equal, are_held, are_short, fills, is_broken, is_held, is_literal_cell, is_zero, known_count}
+use Rattle.sh_ir.specs.Shapes.{extent_of}
 use Rattle.sh_ir.specs.declared.bodies.BodyKind.TheVariants as body_kind
 use Rattle.sh_ir.specs.declared.types.Dim.{Dim}
 use Rattle.sh_ir.specs.declared.types.Dim.TheVariants.{Known, Differs}
@@ -27,11 +25,10 @@ use Rattle.sh_ir.specs.declared.types.ValueType.TheVariants as type
 use Rattle.sh_ir.specs.declared.arith_ops.Constant as constant
 use Rattle.sh_ir.specs.declared.arith_ops.Contents.{Contents}
 use Rattle.sh_ir.specs.declared.arith_ops.Contents.TheVariants.{Held, Broken}
-use Rattle.sh_literals.specs.LiteralCells.{are_extents, cell_of, cells_of, fills_or_fits, has_none, held, tensor_contents}
+use Rattle.sh_literals.specs.LiteralCells.{are_extents, cell_of, cells_of, fills_or_fits, held, tensor_contents}
 use Rattle.sh_literals.specs.declared.literals.Element.TheVariants.{Number}
 use Rattle.sh_literals.specs.declared.literals.Literal.{Literal}
 use Rattle.sh_literals.specs.declared.literals.Literal.TheVariants.{Empty}
-use Rattle.sh_print.specs.Layout.{Piece}
 use Rattle.sh_print.specs.Spellings.{cell_pieces, cells_pieces, dense, dense_pieces, num, number_pieces, sign, signed_value, type_pieces, width}
 use Rattle.sh_print.specs.Tokens.{constant_pieces, literal_pieces, of_type, scalar_pieces}
 use Rattle.sh_print_laws.specs.ReadsBack.{is_whole}
@@ -83,7 +80,7 @@ record AreAll (dims : List Dim) (cells : List Cell) : Type 0 where
   pub differ : are_equal cells ≡ false
   pub some : list_any is_zero dims ≡ false
 
-not_true : (b : Bool) → not b ≡ true → b ≡ false
+pub not_true : (b : Bool) → not b ≡ true → b ≡ false
 not_true false h = refl
 not_true true h = absurd (let e : false ≡ true = h in cc)
 

@@ -1,8 +1,8 @@
 -- The tokens of a printed module are a file that stands for a module alike.
-use Rattle.std.proofs.Common.{◌≡◌, ◌∙◌, ◌-◌, ◌||◌, ℕ, suc, Bool, true, false, List, [], ◌∷◌, ◌++◌, map, take, drop, reverse, Option, Some, None, refl, ap, sym, subst, append_assoc, codes}
+use Rattle.std.proofs.Common.{◌≡◌, ◌∙◌, ℕ, true, List, [], ◌∷◌, ◌++◌, map, refl, ap, sym, subst, codes}
 use Rattle.std.specs.Prelude.{IsTrue, flat_map}
 use Rattle.std.specs.List.{AllByRecursion, list_all, list_any}
-use Rattle.std.proofs.lemmas.Bool.{eq-eqb, or_left, or_right}
+use Rattle.std.proofs.lemmas.Bool.{or_left}
 use Rattle.std.proofs.lemmas.Grind.{flat_map-append}
 use Rattle.std.proofs.lemmas.List.{append-nil}
 use Rattle.std.proofs.lemmas.List.Folds.{list_all-append}
@@ -10,30 +10,28 @@ use Rattle.sh_alike.specs.Alike.{AreAlike}
 use Rattle.sh_base.specs.declared.places.Place.{Place}
 use Rattle.sh_build.specs.Meaning.{made}
 use Rattle.sh_build.specs.Rows.{first_part}
-use Rattle.sh_build.specs.declared.parts.Alias.{Alias}
 use Rattle.sh_build.specs.declared.parts.Part.{Part}
 use Rattle.sh_build.specs.declared.parts.Part.TheVariants as part
 use Rattle.sh_grammar.proofs.OneLanguage.{only_tree}
-use Rattle.sh_grammar.specs.Grammar.{Spells, Trees, events, tokens}
+use Rattle.sh_grammar.specs.Grammar.{Trees, events, tokens}
 use Rattle.sh_grammar.specs.Grammar.Spells.{is_form, is_nothing, is_token}
 use Rattle.sh_grammar.specs.Grammar.Trees.{form, nothing, token as tree_token}
-use Rattle.sh_grammar.specs.Language.{IsFile, language, text_of_file}
+use Rattle.sh_grammar.specs.Language.{IsFile}
 use Rattle.sh_grammar.specs.Lexemes.{Lexeme, class_of, class_of_kind, lexeme_of, lexemes}
 use Rattle.sh_grammar.specs.declared.forms.Form.TheVariants as forms
 use Rattle.sh_ir.specs.Formed.{IsFormed, is_numbered, op_texts, all_written, ops_of}
-use Rattle.sh_ir.specs.Written.{Written, written_by}
+use Rattle.sh_ir.specs.Written.{Written}
 use Rattle.sh_ir.specs.declared.functions.Func.{Func}
 use Rattle.sh_ir.specs.declared.modules.Module.{Module}
 use Rattle.sh_ir.specs.declared.operations.Op.{Op}
 use Rattle.sh_lex.specs.declared.tokens.Token.{Token}
 use Rattle.sh_lex.specs.declared.tokens.TokenKind.TheVariants as kind
-use Rattle.sh_names.specs.Names.{Mention, Owned, all_keep, distinct, first_number, keep_rules, mention_of, mentions, names_behind, names_by_role, names_of, number_among, numbers_of, same_owned}
-use Rattle.sh_names.specs.declared.scopes.Role.TheVariants as role
+use Rattle.sh_names.specs.Names.{Mention, Owned, all_keep, distinct, first_number, keep_rules, mentions, names_behind, same_owned}
 use Rattle.sh_parse.proofs.formed.FilesFormed.{all_names, parts_of_file, read_formed}
 use Rattle.sh_parse.proofs.formed.NumbersOfNames.{IsIn, in_behind, in_front, same_self}
 use Rattle.sh_parse.proofs.formed.Walks.{before_past, mentions_walked, names_behind_both, walked}
 use Rattle.sh_parse.proofs.formed.Walks as read
-use Rattle.sh_parse.specs.Reads.{Reads, TokensRead, aliases_of, file_part, file_parts, leaf}
+use Rattle.sh_parse.specs.Reads.{Reads, TokensRead, aliases_of, file_part, leaf}
 use Rattle.sh_print.proofs.LayoutLexes.{layout_lexes}
 use Rattle.sh_print.proofs.ReadableModules.{formed_can_be_read}
 use Rattle.sh_print.specs.Layout.{Piece}

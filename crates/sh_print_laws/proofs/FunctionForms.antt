@@ -1,51 +1,41 @@
 -- Functions.
-use Rattle.std.proofs.Common.{◌≡◌, ◌∙◌, ◌+◌, ℕ, Bool, true, false, not, ◌&&◌, List, [], ◌∷◌, ◌++◌, map, length, Option, Some, None, refl, ap, sym, subst, codes, append_assoc}
-use Rattle.std.specs.Prelude.{IsTrue, MatchOption, ⊤, flat_map}
+use Rattle.std.proofs.Common.{◌≡◌, ◌∙◌, ◌+◌, ℕ, Bool, true, false, List, [], ◌∷◌, map, Some, None, refl, ap, sym, subst}
+use Rattle.std.specs.Prelude.{IsTrue, flat_map}
 use Rattle.std.specs.List.{AllByRecursion, list_all}
-use Rattle.std.proofs.lemmas.Bool.{and_from}
 use Rattle.std.proofs.lemmas.List.{append-nil}
 use Rattle.sh_alike.specs.Renamed.{renamed_arg, renamed_op}
-use Rattle.sh_base.specs.declared.places.Place.{Place}
 use Rattle.sh_build.specs.Meaning.{made}
 use Rattle.sh_build.specs.Readings.{op_in, ops_in}
 use Rattle.sh_build.specs.declared.parts.Part.{Part}
 use Rattle.sh_build.specs.declared.parts.Part.TheVariants as part
-use Rattle.sh_grammar.specs.Lexemes.{Lexeme, class_of}
 use Rattle.sh_grammar.specs.declared.forms.Form.{Form}
 use Rattle.sh_grammar.specs.declared.forms.Form.TheVariants as forms
 use Rattle.sh_ir.specs.Classes.{is_return}
 use Rattle.sh_ir.specs.Formed.{is_numbered, is_spelled_type}
 use Rattle.sh_ir.specs.Parts.{op_of}
-use Rattle.sh_ir.specs.Regions.{is_among}
 use Rattle.sh_ir.specs.Written.{written_by}
 use Rattle.sh_ir.specs.declared.functions.Arg.{Arg}
-use Rattle.sh_ir.specs.declared.functions.Func.{Func}
 use Rattle.sh_ir.specs.declared.operations.Op.{Op}
-use Rattle.sh_ir.specs.declared.operations.OpKind.{OpKind}
 use Rattle.sh_ir.specs.declared.operations.OpKind.TheVariants as op_kind
 use Rattle.sh_ir.specs.declared.operations.Return as declared_return
 use Rattle.sh_ir.specs.declared.types.ValueType.{ValueType}
 use Rattle.sh_ir.specs.declared.types.ValueType.TheVariants as type
-use Rattle.sh_lex.specs.declared.tokens.TokenKind.TheVariants as kind
 use Rattle.sh_literals.specs.Fronts.{before}
-use Rattle.sh_names.specs.Names.{Owned, all_keep, fits_device, mention_of}
-use Rattle.sh_names.specs.declared.scopes.Role.TheVariants as role
-use Rattle.sh_print.specs.Layout.{Piece}
-use Rattle.sh_print.specs.Spellings.{list_of, type_pieces}
-use Rattle.sh_print.specs.Tokens.{flag, of_type, op_pieces, ops_pieces, parameter, parameters_pieces, results_pieces, scope_of, several_pieces, signature_pieces, symbol, to_type, types}
+use Rattle.sh_names.specs.Names.{Owned}
+use Rattle.sh_print.specs.Spellings.{list_of}
+use Rattle.sh_print.specs.Tokens.{of_type, op_pieces, parameter, results_pieces, several_pieces, to_type}
 use Rattle.sh_print.specs.Values.{Scope}
-use Rattle.sh_print_laws.specs.TokensOf.{lexeme}
 use Rattle.sh_print_laws.proofs.Between.{Between, enters_operation, enters_return, outside_spot}
 use Rattle.sh_print_laws.proofs.Counted.{form_counted, token_count}
 use Rattle.sh_print_laws.proofs.Keywords as keyword
 use Rattle.sh_print_laws.proofs.ListForms.{IsListForm, list_spelled}
 use Rattle.sh_print_laws.proofs.LoopForms.{base, reader_of}
 use Rattle.sh_print_laws.proofs.PlainForms.{type_spelled, types_spelled}
-use Rattle.sh_print_laws.proofs.Rows.{FormTo, Gives, Naming, RowTo, is_plain, by_row, by_row_entered, end_row, form_between, last_form, last_is, row_by, then_closing, then_form, then_in_2, then_in_3, then_is, then_line_end, then_opening, then_step, then_token, then_value}
+use Rattle.sh_print_laws.proofs.Rows.{FormTo, Gives, Naming, is_plain, by_row, by_row_entered, end_row, form_between, last_form, last_is, row_by, then_form, then_is, then_token, then_value}
 use Rattle.sh_print_laws.proofs.SideForms.{AreOutside, IsRead, OpFits, operation_row, return_row}
-use Rattle.sh_print_laws.proofs.Standing.{Spot, Standing, enters_plain, mentioned_by, naming, num_by, steps_past}
+use Rattle.sh_print_laws.proofs.Standing.{Standing, enters_plain, naming, num_by}
 use Rattle.sh_print_laws.proofs.Tests.{and_parts}
-use Rattle.sh_print_laws.proofs.Walks.{State, enter, step}
+use Rattle.sh_print_laws.proofs.Walks.{State, enter}
 
 -- ## Operations
 

@@ -1,16 +1,15 @@
 -- Where items, functions and device items begin, and what their names do.
-use Rattle.std.proofs.Common.{◌≡◌, ◌∙◌, ◌≤◌, ◌||◌, ℕ, Bool, true, false, List, [], ◌∷◌, reverse, refl, ap, sym, subst, arith}
-use Rattle.std.proofs.Math.Bool.{or-false}
+use Rattle.std.proofs.Common.{◌≡◌, ◌∙◌, ◌≤◌, ◌||◌, ℕ, Bool, true, false, List, [], reverse, refl, ap, arith}
 use Rattle.sh_base.specs.declared.places.Place.{Place}
 use Rattle.sh_grammar.specs.Lexemes.{Lexeme}
 use Rattle.sh_grammar.specs.declared.forms.Form.TheVariants as forms
 use Rattle.sh_lex.specs.declared.tokens.TokenKind.TheVariants as kind
-use Rattle.sh_names.specs.Names.{Mention, fits_behind, fits_device, is_own, keeps_rules, mention_of, same_text}
+use Rattle.sh_names.specs.Names.{Mention, fits_behind, is_own, keeps_rules, mention_of, same_text}
 use Rattle.sh_names.specs.declared.scopes.Role.{Role}
 use Rattle.sh_names.specs.declared.scopes.Role.TheVariants as role
 use Rattle.sh_print_laws.specs.TokensOf.{lexeme}
 use Rattle.sh_print_laws.proofs.Between.{outside_spot}
-use Rattle.sh_print_laws.proofs.Standing.{Mentioned, Spot, Standing, among, behind_roles, defined_still, mentioned_by, owns}
+use Rattle.sh_print_laws.proofs.Standing.{Mentioned, Spot, Standing, behind_roles, defined_still, mentioned_by, owns}
 use Rattle.sh_print_laws.proofs.Walks.{State, enter, start, step}
 
 -- any function may follow

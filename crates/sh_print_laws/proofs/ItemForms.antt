@@ -1,18 +1,16 @@
 -- Functions, device items, grids and calls.
-use Rattle.std.proofs.Common.{◌≡◌, ◌∙◌, ◌<◌, ◌^◌, ◌&&◌, ℕ, Bool, true, false, List, [], ◌∷◌, ◌++◌, map, length, Option, Some, None, refl, ap, sym, subst, codes, append_assoc, ltb-true}
-use Rattle.std.specs.Prelude.{IsTrue, ℤ, pos, negsuc, flat_map}
+use Rattle.std.proofs.Common.{◌≡◌, ◌^◌, ℕ, Bool, true, false, List, [], ◌∷◌, ◌++◌, map, None, refl, ap, sym, subst, codes, ltb-true}
+use Rattle.std.specs.Prelude.{ℤ, pos, negsuc}
 use Rattle.std.specs.List.{AllByRecursion, list_all}
 use Rattle.sh_alike.specs.Renamed.{renamed_arg, renamed_op}
 use Rattle.sh_base.specs.declared.places.Place.{Place}
 use Rattle.sh_build.specs.Meaning.{made, on_grid}
 use Rattle.sh_build.specs.Readings.{ops_in}
-use Rattle.sh_build.specs.declared.parts.Device as declared_device
 use Rattle.sh_build.specs.declared.parts.Part.{Part}
 use Rattle.sh_build.specs.declared.parts.Part.TheVariants as part
 use Rattle.sh_grammar.specs.Lexemes.{Lexeme, class_of}
 use Rattle.sh_grammar.specs.declared.forms.Form.TheVariants as forms
 use Rattle.sh_grammar.specs.declared.symbols.Symbol.{Symbol}
-use Rattle.sh_grammar.specs.declared.symbols.Symbol.TheVariants as symbol
 use Rattle.sh_ir.specs.Formed.{is_not_negative, is_spelled, is_spelled_type}
 use Rattle.sh_ir.specs.Literals.{can_be_dense, is_broken, is_dense, is_held}
 use Rattle.sh_ir.specs.Written.{all_numbers, sharding_numbers}
@@ -24,8 +22,6 @@ use Rattle.sh_ir.specs.declared.functions.Cut.{Cut}
 use Rattle.sh_ir.specs.declared.functions.Func.{Func}
 use Rattle.sh_ir.specs.declared.modules.CallItem.{CallItem}
 use Rattle.sh_ir.specs.declared.modules.GridItem.{GridItem}
-use Rattle.sh_ir.specs.declared.operations.Op.{Op}
-use Rattle.sh_ir.specs.declared.types.Dim.TheVariants.{Known}
 use Rattle.sh_ir.specs.declared.types.ValueType.{ValueType}
 use Rattle.sh_ir.specs.declared.types.ValueType.TheVariants as type
 use Rattle.sh_lex.specs.declared.tokens.TokenKind.TheVariants as kind
@@ -33,17 +29,17 @@ use Rattle.sh_names.specs.Names.{Owned, same_text}
 use Rattle.sh_names.specs.declared.scopes.Role.TheVariants as role
 use Rattle.sh_print.specs.Layout.{Piece}
 use Rattle.sh_print.specs.Spellings.{dense_pieces, list_of}
-use Rattle.sh_print.specs.Tokens.{attribute, call_pieces, carry_pieces, cut_pieces, cuts, extents, flag, grid_pieces, op_pieces, ops_pieces, parameter, parameters_pieces, sharding_pieces, signature_pieces, splits}
+use Rattle.sh_print.specs.Tokens.{attribute, call_pieces, carry_pieces, cut_pieces, cuts, extents, flag, grid_pieces, ops_pieces, parameters_pieces, sharding_pieces, signature_pieces, splits}
 use Rattle.sh_print.specs.Values.{Scope}
 use Rattle.sh_print_laws.specs.TokensOf.{lexeme}
-use Rattle.sh_print_laws.proofs.Between.{Between, outside_spot}
+use Rattle.sh_print_laws.proofs.Between.{outside_spot}
 use Rattle.sh_print_laws.proofs.DenseForms.{a_dense}
-use Rattle.sh_print_laws.proofs.FunctionForms.{AreNumbered, Behind, IsOpsSomewhere, OpsFit, number_in, ops_anywhere, parameters_spelled, read_ops, results_spelled}
+use Rattle.sh_print_laws.proofs.FunctionForms.{AreNumbered, Behind, OpsFit, number_in, ops_anywhere, parameters_spelled, read_ops, results_spelled}
 use Rattle.sh_print_laws.proofs.Heads.{AtItem, anyone, device_named, enters_device, enters_func, func_named, head_spot}
 use Rattle.sh_print_laws.proofs.Keywords as keyword
 use Rattle.sh_print_laws.proofs.ListForms.{IsListForm, list_spelled}
 use Rattle.sh_print_laws.proofs.PlainForms.{lists_spelled, then_extent, then_number, type_spelled}
-use Rattle.sh_print_laws.proofs.Rows.{FormTo, Gives, Naming, RowTo, by_row, by_row_entered, end_row, form_between, last_form, last_is, row_to_end, then_closing, then_form, then_in_2, then_in_3, then_is, then_line_end, then_opening, then_step, then_token}
+use Rattle.sh_print_laws.proofs.Rows.{FormTo, Gives, Naming, RowTo, by_row, by_row_entered, end_row, form_between, last_is, row_to_end, then_closing, then_form, then_in_2, then_in_3, then_is, then_line_end, then_opening, then_step, then_token}
 use Rattle.sh_print_laws.proofs.ShardForms.{maybe_halo_form, maybe_offsets_form, then_symbol}
 use Rattle.sh_print_laws.proofs.Standing.{Spot, Standing, enters_plain, naming, num_by, steps_past}
 use Rattle.sh_print_laws.proofs.Tests.{all_parts, and_parts}

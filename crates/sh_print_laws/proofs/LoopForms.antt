@@ -1,7 +1,7 @@
 -- Operations with a region.
-use Rattle.std.proofs.Common.{◌≡◌, ◌∙◌, ◌⊎◌, inl, inr, ◌+◌, ◌≤◌, ◌-◌, ℕ, zero, suc, Bool, true, false, nat_eq, List, [], ◌∷◌, ◌++◌, map, take, drop, length, Option, Some, None, refl, ap, sym, subst, codes, arith, append_assoc, if◌then◌else◌, true≢false}
+use Rattle.std.proofs.Common.{◌≡◌, ◌∙◌, ◌⊎◌, inl, inr, ◌+◌, ◌-◌, ℕ, zero, suc, Bool, true, false, nat_eq, List, [], ◌∷◌, ◌++◌, map, take, drop, length, Some, None, refl, ap, sym, subst, codes, arith, append_assoc, if◌then◌else◌}
 use Rattle.std.specs.Prelude.{IsTrue, filter, flat_map, not}
-use Rattle.std.specs.List.{AllByRecursion, list_all, list_any}
+use Rattle.std.specs.List.{AllByRecursion, list_all}
 use Rattle.std.specs.Option.{option_map_or}
 use Rattle.std.proofs.lemmas.Bool.{cases_Bool, eq-eqb, eqb-true, or_cases, or_left, or_right}
 use Rattle.std.proofs.lemmas.List.{append-nil, take-append-drop, length-drop, length-take-le, map-append}
@@ -21,7 +21,6 @@ use Rattle.sh_ir.specs.Regions.{captured_by, first_occurrences, is_among, outer_
 use Rattle.sh_ir.specs.Written.{first_type, written_by}
 use Rattle.sh_ir.specs.declared.bodies.Body.{Body}
 use Rattle.sh_ir.specs.declared.bodies.BodyOp.{BodyOp}
-use Rattle.sh_ir.specs.declared.functions.Arg.{Arg}
 use Rattle.sh_ir.specs.declared.linalg_ops.AffineMap.{AffineMap}
 use Rattle.sh_ir.specs.declared.linalg_ops.Generic as declared_generic
 use Rattle.sh_ir.specs.declared.linalg_ops.InsOuts.{InsOuts}
@@ -39,12 +38,12 @@ use Rattle.sh_print.specs.Tokens.{along_pieces, are_none, attribute, block_argum
 use Rattle.sh_print.specs.Values.{Scope, name_in, name_inside, name_text}
 use Rattle.sh_print.specs.declared.names.Name.TheVariants.{BlockArgument}
 use Rattle.sh_print_laws.specs.TokensOf.{lexeme}
-use Rattle.sh_print_laws.proofs.Captures.{BodyUses, captured_placeless, captured_renamed}
+use Rattle.sh_print_laws.proofs.Captures.{captured_placeless, captured_renamed}
 use Rattle.sh_print_laws.proofs.Keywords as keyword
 use Rattle.sh_print_laws.proofs.OperationForms.{map_same}
 use Rattle.sh_print_laws.proofs.MapForms.{kinds_spelled}
 use Rattle.sh_print_laws.proofs.PlainForms.{nums_spelled, type_spelled}
-use Rattle.sh_print_laws.proofs.RegionForms.{AreOuter, Covers, IsTail, Named, StepFits, behind_ops, body_form, generic_form, is_inner, read_in, region_spelled, same_self, text_in}
+use Rattle.sh_print_laws.proofs.RegionForms.{AreOuter, Covers, IsTail, Named, StepFits, behind_ops, body_form, generic_form, is_inner, read_in, region_spelled, same_self}
 use Rattle.sh_print_laws.proofs.RegionSteps.{arguments_spelled, read_blocks, with_blocks, with_own}
 use Rattle.sh_print_laws.proofs.Rows.{FormTo, Naming, by_row, end_row, form_between, last_form, last_is, row_by, then_closing, then_form, then_in_2, then_in_3, then_in_4, then_is, then_line_end, then_opening, then_token}
 use Rattle.sh_print_laws.proofs.Standing.{Spot, Standing, among, naming, num_by, owned}

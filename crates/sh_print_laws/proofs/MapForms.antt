@@ -1,5 +1,5 @@
 -- Maps of loops, and kinds of loops.
-use Rattle.std.proofs.Common.{◌≡◌, ◌∙◌, ◌<◌, ◌^◌, ℕ, true, false, List, [], ◌∷◌, ◌++◌, map, Option, Some, None, refl, ap, sym, subst, codes}
+use Rattle.std.proofs.Common.{◌≡◌, ◌∙◌, ◌<◌, ◌^◌, ℕ, List, [], ◌∷◌, ◌++◌, map, Some, None, refl, ap, codes}
 use Rattle.std.specs.Prelude.{decimal}
 use Rattle.std.specs.List.{AllByRecursion}
 use Rattle.sh_base.specs.declared.places.Place.{Place}
@@ -8,7 +8,6 @@ use Rattle.sh_build.specs.Readings.{id_in, map_in, maps_in, quoted_in}
 use Rattle.sh_build.specs.declared.parts.Part.{Part}
 use Rattle.sh_build.specs.declared.parts.Part.TheVariants as part
 use Rattle.sh_grammar.specs.Lexemes.{Lexeme, class_of, former_words, hashes, bangs, dims, first_class, signs, words}
-use Rattle.sh_grammar.specs.declared.forms.Form.{Form}
 use Rattle.sh_grammar.specs.declared.forms.Form.TheVariants as forms
 use Rattle.sh_grammar.specs.declared.symbols.Symbol.{Symbol}
 use Rattle.sh_grammar.specs.declared.symbols.Symbol.TheVariants as symbol
@@ -23,12 +22,12 @@ use Rattle.sh_names.specs.Names.{Owned, behind, is_own, mention_of, names_by_rol
 use Rattle.sh_names.specs.declared.scopes.Role.TheVariants as role
 use Rattle.sh_names.specs.declared.scopes.Scope.{Scope}
 use Rattle.sh_print.specs.Layout.{Piece}
-use Rattle.sh_print.specs.Spellings.{in_brackets, list_of, rest_of_list}
+use Rattle.sh_print.specs.Spellings.{list_of, rest_of_list}
 use Rattle.sh_print.specs.Tokens.{iterator_pieces, loop_word, loops_pieces, map_pieces}
 use Rattle.sh_print_laws.specs.TokensOf.{lexeme}
 use Rattle.sh_print_laws.proofs.Decimals.{IsNumeral, byte_other, first_digit, numeral}
 use Rattle.sh_print_laws.proofs.Keywords as keyword
-use Rattle.sh_print_laws.proofs.Rows.{FormTo, Gives, IsForm, Naming, RowTo, by_row, by_row_entered, end_row, form_between, is_plain, last_form, last_is, then_form, then_in_2, then_in_3, then_is, then_numbered, then_token}
+use Rattle.sh_print_laws.proofs.Rows.{FormTo, Gives, Naming, RowTo, by_row, by_row_entered, end_row, form_between, last_form, last_is, then_form, then_in_2, then_in_3, then_numbered, then_token}
 use Rattle.sh_print_laws.proofs.Standing.{Mentioned, Placed, Spot, Standing, enters_plain, first_by, is_calm, name_of, name_used, naming, num_by, owned, plain_inside, stands_behind, steps_on}
 use Rattle.sh_print_laws.proofs.Walks.{State, enter, step}
 

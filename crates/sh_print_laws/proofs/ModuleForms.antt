@@ -1,18 +1,17 @@
 -- Items, modules and files.
-use Rattle.std.proofs.Common.{◌≡◌, ◌∙◌, ◌&&◌, ℕ, Bool, true, false, List, [], ◌∷◌, ◌++◌, map, Option, Some, None, refl, ap, sym, subst, append_assoc}
+use Rattle.std.proofs.Common.{◌≡◌, ◌∙◌, ℕ, true, List, [], ◌∷◌, ◌++◌, map, Option, Some, None, refl, ap, sym, append_assoc}
 use Rattle.std.specs.Prelude.{MatchOption, ⊤, ℤ, flat_map}
 use Rattle.std.specs.List.{AllByRecursion, list_all}
-use Rattle.std.proofs.lemmas.List.{append-nil}
 use Rattle.sh_alike.specs.Renamed.{placeless_call, placeless_grid}
 use Rattle.sh_base.specs.declared.places.Place.{Place}
 use Rattle.sh_build.specs.Meaning.{carried, made, module_of, with_item}
-use Rattle.sh_build.specs.Readings.{contents_in, module_name_in}
+use Rattle.sh_build.specs.Readings.{contents_in}
 use Rattle.sh_build.specs.Rows.{first_part}
 use Rattle.sh_build.specs.declared.parts.Contents.{Contents}
 use Rattle.sh_build.specs.declared.parts.Part.{Part}
 use Rattle.sh_build.specs.declared.parts.Part.TheVariants as part
 use Rattle.sh_grammar.specs.Language.{text_of_file}
-use Rattle.sh_grammar.specs.Lexemes.{Lexeme, class_of}
+use Rattle.sh_grammar.specs.Lexemes.{class_of}
 use Rattle.sh_grammar.specs.declared.forms.Form.{Form}
 use Rattle.sh_grammar.specs.declared.forms.Form.TheVariants as forms
 use Rattle.sh_grammar.specs.declared.symbols.Symbol.{Symbol}
@@ -29,15 +28,14 @@ use Rattle.sh_print.specs.Layout.Piece.{closing, line_end, token}
 use Rattle.sh_print.specs.Tokens.{call_pieces, carry_pieces, device_pieces, func_pieces, grid_pieces, items_pieces, module_name, ops_pieces, scope_of, signature_pieces, tokens_of}
 use Rattle.sh_print_laws.proofs.Between.{outside_spot}
 use Rattle.sh_print_laws.proofs.FunctionForms.{OpsFit}
-use Rattle.sh_print_laws.proofs.Heads.{AtItem, anyone, at_start, enters_contents}
-use Rattle.sh_print_laws.proofs.ItemForms.{ArgumentFits, CarryFits, FuncRead, IsFunc, call_spelled, device_spelled, func_spelled, grid_spelled}
+use Rattle.sh_print_laws.proofs.Heads.{AtItem, anyone, enters_contents}
+use Rattle.sh_print_laws.proofs.ItemForms.{ArgumentFits, CarryFits, FuncRead, call_spelled, device_spelled, func_spelled, grid_spelled}
 use Rattle.sh_print_laws.proofs.Keywords as keyword
 use Rattle.sh_print_laws.proofs.RegionForms.{same_self}
-use Rattle.sh_print_laws.proofs.Rows.{FormTo, MadeTo, Naming, RowTo, by_row, by_row_entered, end_row, form_between, last_form, row_by, row_to_end, then_closing, then_form, then_in_2, then_is, then_line_end, then_opening, then_token}
+use Rattle.sh_print_laws.proofs.Rows.{FormTo, Naming, RowTo, by_row, by_row_entered, end_row, form_between, last_form, row_by, row_to_end, then_closing, then_form, then_in_2, then_is, then_line_end, then_opening, then_token}
 use Rattle.sh_print_laws.proofs.ShardForms.{then_symbol}
-use Rattle.sh_print_laws.proofs.SideForms.{form_so}
 use Rattle.sh_print_laws.proofs.Standing.{Standing, enters_plain, naming, num_by}
-use Rattle.sh_print_laws.proofs.Walks.{State, enter, start}
+use Rattle.sh_print_laws.proofs.Walks.{State, enter}
 
 -- ## What is known
 

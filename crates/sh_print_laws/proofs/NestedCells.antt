@@ -1,6 +1,6 @@
 -- The cells of a literal, one by one between the brackets that open before and close behind each, are
 -- nested lists.
-use Rattle.std.proofs.Common.{◌≡◌, ◌∙◌, ◌<◌, ◌≤◌, ◌+◌, ◌*◌, ◌/◌, ◌%◌, ℕ, zero, suc, Bool, true, false, nat_eq, List, [], ◌∷◌, ◌++◌, take, drop, length, reverse, refl, ap, sym, subst, arith, append_assoc, replicate, if◌then◌else◌}
+use Rattle.std.proofs.Common.{◌≡◌, ◌∙◌, ◌<◌, ◌+◌, ◌*◌, ℕ, zero, suc, false, nat_eq, List, [], ◌∷◌, ◌++◌, take, drop, length, reverse, refl, ap, sym, arith, append_assoc, replicate, if◌then◌else◌}
 use Rattle.std.specs.List.{AllByRecursion}
 use Rattle.std.proofs.lemmas.List.{append-nil, take-append-drop}
 use Rattle.std.proofs.lemmas.Grind.{reverse_onto}

@@ -1,12 +1,12 @@
 -- Functions that are read so are alike: each name in use has one number, and each number one name.
-use Rattle.std.proofs.Common.{◌≡◌, ◌∙◌, ◌<◌, ◌≤◌, ◌+◌, ◌⊎◌, inl, inr, ◌||◌, ℕ, suc, Bool, true, false, nat_eq, List, [], ◌∷◌, ◌++◌, map, Option, Some, None, refl, ap, sym, subst, arith, if◌then◌else◌, true≢false}
+use Rattle.std.proofs.Common.{◌≡◌, ◌∙◌, ◌<◌, ◌≤◌, ◌+◌, ◌⊎◌, inl, inr, ◌||◌, ℕ, Bool, true, false, nat_eq, List, [], ◌∷◌, ◌++◌, map, Option, Some, None, refl, ap, sym, subst, arith, if◌then◌else◌}
 use Rattle.std.specs.Prelude.{MatchOption, ⊤, flat_map, option_to_list}
 use Rattle.std.specs.List.{AllByRecursion, list_any}
 use Rattle.std.specs.Option.{option_map_or}
-use Rattle.std.proofs.lemmas.Bool.{cases_Bool, eqb-true, or_cases, or_left, or_right}
-use Rattle.sh_alike.proofs.Renaming.{args_agree, each_front, op_agree, op_names, region_names, regions_cons}
-use Rattle.sh_alike.specs.Alike.{AreAlike, AreAlikeEach, AreAlikeFuncs, KeepsApart, names_in_use, names_of_body}
-use Rattle.sh_alike.specs.Renamed.{placeless_func, renamed_arg, renamed_func, renamed_op}
+use Rattle.std.proofs.lemmas.Bool.{cases_Bool, eqb-true, or_cases, or_left, or_parts, or_right}
+use Rattle.sh_alike.proofs.Renaming.{args_agree, op_agree, op_names, region_names, regions_cons}
+use Rattle.sh_alike.specs.Alike.{AreAlike, AreAlikeEach, AreAlikeFuncs, names_in_use, names_of_body}
+use Rattle.sh_alike.specs.Renamed.{placeless_func, renamed_arg, renamed_op}
 use Rattle.sh_ir.specs.Formed.{bodies_in, func_names}
 use Rattle.sh_ir.specs.Regions.{is_among, own_names}
 use Rattle.sh_ir.specs.Written.{written_by}
@@ -17,7 +17,8 @@ use Rattle.sh_ir.specs.declared.functions.Func.{Func}
 use Rattle.sh_ir.specs.declared.modules.Module.{Module}
 use Rattle.sh_ir.specs.declared.operations.Op.{Op}
 use Rattle.sh_names.specs.Names.{Owned}
-use Rattle.sh_print.specs.Tokens.{op_pieces, scope_of, scope_of_body}
+use Rattle.sh_parse.proofs.formed.EachOf.{each_append, each_so}
+use Rattle.sh_print.specs.Tokens.{op_pieces, scope_of}
 use Rattle.sh_print.specs.Values.{Scope, name_in, name_text}
 use Rattle.sh_print_laws.proofs.Counted.{token_count}
 use Rattle.sh_print_laws.proofs.FunctionForms.{AreNumbered, number_in, read_ops}
@@ -53,24 +54,12 @@ pub record FuncNames (f : Func) : Type 0 where
   pub disjoint : AreDisjoint f.ops
   pub texts : (a b : ℕ) → IsDefined (scope_of f) a → IsDefined (scope_of f) b → name_text (name_in (scope_of f) a) ≡ name_text (name_in (scope_of f) b) → a ≡ b
 
-each_so : {X : Type 0} (P Q : X → Type 0) (xs : List X) → ((x : X) → P x → Q x) → AllByRecursion P xs → AllByRecursion Q xs
-each_so P Q [] so h = tt
-each_so P Q (x ∷ xs) so h = (so x h.0, each_so P Q xs so h.1)
-
-each_append : {X : Type 0} (P : X → Type 0) (xs ys : List X) → AllByRecursion P xs → AllByRecursion P ys → AllByRecursion P (xs ++ ys)
-each_append P [] ys h g = g
-each_append P (x ∷ xs) ys h g = (h.0, each_append P xs ys h.1 g)
-
 at_among : (P : ℕ → Type 0) (xs : List ℕ) (a : ℕ) → AllByRecursion P xs → is_among xs a ≡ true → P a
 at_among P [] a h g = absurd (let e : false ≡ true = g in cc)
 at_among P (x ∷ xs) a h g = elim (or_cases (nat_eq a x) (is_among xs a) g) [
   | inl e ↦ subst P (sym (eqb-true a x e)) h.0
   | inr e ↦ at_among P xs a h.1 e
 ]
-
-or_none : (a b : Bool) → (a || b) ≡ false → (a ≡ false) × (b ≡ false)
-or_none false b e = (refl, e)
-or_none true b e = absurd (let no : true ≡ false = e in cc)
 
 module _ (v : Owned → ℕ) (apart : (x y : Owned) → x.unit ≡ y.unit → v x ≡ v y → x ≡ y) (unit : ℕ) (scope : Scope) where
   abbrev outer_owner : ℕ → Owned
@@ -103,7 +92,7 @@ module _ (v : Owned → ℕ) (apart : (x y : Owned) → x.unit ≡ y.unit → v 
 
   owner_free : (ops : List Op) (k : ℕ) (id : ℕ) → list_any (λ x. owns_in x id) ops ≡ false → owner k ops id ≡ outer_owner id
   owner_free [] k id h = refl
-  owner_free (x ∷ ops) k id h = let both = or_none (owns_in x id) (list_any (λ y. owns_in y id) ops) h in rw both.0 (owner_free ops (k + token_count (op_pieces scope x)) id both.1)
+  owner_free (x ∷ ops) k id h = let both = or_parts (owns_in x id) (list_any (λ y. owns_in y id) ops) h in rw both.0 (owner_free ops (k + token_count (op_pieces scope x)) id both.1)
 
   -- ## The names of one operation
 
@@ -141,7 +130,7 @@ module _ (v : Owned → ℕ) (apart : (x y : Owned) → x.unit ≡ y.unit → v 
         let outer = λ (id : ℕ) (h : IsDefined scope id).
         (let it : r id ≡ reader_of v apart anyone unit k scope x.kind id =
         same id (inl h) ∙ ap v (owner_free (x ∷ ops) k id (free id h))
-        ∙ sym (outer_read k (written_by x.kind).body names.regions id (or_none (owns_in x id) (list_any (λ y. owns_in y id) ops) (free id h)).0) in it) in
+        ∙ sym (outer_read k (written_by x.kind).body names.regions id (or_parts (owns_in x id) (list_any (λ y. owns_in y id) ops) (free id h)).0) in it) in
         let own = λ (id : ℕ) (h : owns_in x id ≡ true).
         (let it : r id ≡ reader_of v apart anyone unit k scope x.kind id =
         same id (inr (or_left (owns_in x id) (list_any (λ y. owns_in y id) ops) h))
@@ -157,7 +146,7 @@ module _ (v : Owned → ℕ) (apart : (x y : Owned) → x.unit ≡ y.unit → v 
     ops_alike (x ∷ ops) k names free disjoint same =
         let later = λ (id : ℕ) (h : UsedBy ops id).
         (let none : owns_in x id ≡ false = elim h [
-          | inl d ↦ (or_none (owns_in x id) (list_any (λ y. owns_in y id) ops) (free id d)).0
+          | inl d ↦ (or_parts (owns_in x id) (list_any (λ y. owns_in y id) ops) (free id d)).0
           | inr o ↦ disjoint.0 id o
         ] in
         let used : UsedBy (x ∷ ops) id = elim h [
@@ -168,7 +157,7 @@ module _ (v : Owned → ℕ) (apart : (x y : Owned) → x.unit ≡ y.unit → v 
         same id used ∙ ap (λ b. v (if b then region_owner k (written_by x.kind).body id else owner (k + token_count (op_pieces scope x)) ops id)) none in it) in
         ap (λ o. o ∷ map (renamed_op r) ops) (op_alike x ops k names.0 free same)
         ∙ ap (λ os. renamed_op (reader_of v apart anyone unit k scope x.kind) x ∷ os)
-        (ops_alike ops (k + token_count (op_pieces scope x)) names.1 (λ id d. (or_none (owns_in x id) (list_any (λ y. owns_in y id) ops) (free id d)).1) disjoint.1 later)
+        (ops_alike ops (k + token_count (op_pieces scope x)) names.1 (λ id d. (or_parts (owns_in x id) (list_any (λ y. owns_in y id) ops) (free id d)).1) disjoint.1 later)
 
   -- ## Owners are apart
 

@@ -1,16 +1,16 @@
 -- Names by their positions: each position has one text, and no name of a region is one of its function.
-use Rattle.std.proofs.Common.{◌≡◌, ◌∙◌, ◌<◌, ◌≤◌, ◌+◌, ◌-◌, ◌^◌, inl, inr, ◌||◌, ℕ, suc, Bool, true, false, not, cond, nat_eq, nat_lt, List, [], ◌∷◌, ◌++◌, drop, get_or, length, Option, Some, None, refl, ap, sym, subst, arith, codes, if◌then◌else◌, lt-ltb, ltb-true, ltb-false, true≢false, append_assoc}
-use Rattle.std.specs.Prelude.{decimal, fold, position}
-use Rattle.std.specs.List.{list_any, position_or_len}
+use Rattle.std.proofs.Common.{◌≡◌, ◌∙◌, ◌<◌, ◌≤◌, ◌+◌, ◌-◌, ◌^◌, inl, inr, ◌||◌, ℕ, Bool, true, false, nat_eq, nat_lt, List, [], ◌∷◌, ◌++◌, drop, get_or, length, Some, None, refl, ap, sym, subst, arith, codes, if◌then◌else◌, lt-ltb, ltb-true, ltb-false, true≢false}
+use Rattle.std.specs.Prelude.{decimal, fold}
+use Rattle.std.specs.List.{position_or_len}
 use Rattle.std.proofs.Math.Bool.{or-false}
-use Rattle.std.proofs.lemmas.Bool.{cases_Bool, eqb-true, eq-eqb, or_cases, or_left, or_right}
+use Rattle.std.proofs.lemmas.Bool.{cases_Bool, eqb-true, or_left}
 use Rattle.std.proofs.lemmas.Fmt.{decimal_injective}
 use Rattle.std.proofs.lemmas.List.Folds.{list_any-append}
 use Rattle.sh_ir.specs.Regions.{is_among}
 use Rattle.sh_lex.specs.Tokens.{is_digit}
 use Rattle.sh_print.specs.Values.{Scope, each_once, name_at, name_in, name_inside, name_text, own_name_at, place_in}
-use Rattle.sh_print.specs.declared.names.Name.TheVariants.{Argument, Value, BlockArgument, BodyValue, Undefined}
-use Rattle.sh_print_laws.proofs.Decimals.{byte_other, first_digit, numeral, other_byte}
+use Rattle.sh_print.specs.declared.names.Name.TheVariants.{Argument, Value, BlockArgument, BodyValue}
+use Rattle.sh_print_laws.proofs.Decimals.{first_digit, numeral, other_byte}
 use Rattle.sh_print_laws.proofs.RegionForms.{is_inner}
 
 -- ## Each once

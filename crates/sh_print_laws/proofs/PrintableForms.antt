@@ -1,6 +1,6 @@
 -- A printable module is read back.
-use Rattle.std.proofs.Common.{◌≡◌, ◌∙◌, ◌⊎◌, inl, inr, ◌<◌, ◌^◌, ◌+◌, ◌||◌, ◌&&◌, ℕ, zero, suc, Bool, true, false, not, nat_lt, List, [], ◌∷◌, ◌++◌, map, length, Option, Some, None, refl, ap, sym, subst, arith, true≢false}
-use Rattle.std.specs.Prelude.{IsTrue, MatchOption, ⊤, ℤ, flat_map, is_some, option_to_list}
+use Rattle.std.proofs.Common.{◌≡◌, ◌∙◌, inl, inr, ◌<◌, ◌^◌, ◌&&◌, ℕ, Bool, true, false, not, nat_lt, List, [], ◌∷◌, ◌++◌, map, length, Option, Some, None, refl, ap, sym, subst, arith, true≢false}
+use Rattle.std.specs.Prelude.{MatchOption, ⊤, ℤ, flat_map, is_some, option_to_list}
 use Rattle.std.specs.List.{AllByRecursion, cons_option, list_all, list_any}
 use Rattle.std.specs.Option.{option_map_or}
 use Rattle.std.proofs.lemmas.Bool.{cases_Bool}
@@ -10,13 +10,12 @@ use Rattle.sh_ir.specs.Formed.{ResultFits, asks_where_allowed, bodies_in, call_c
 use Rattle.sh_ir.specs.Literals.{is_broken, is_dense, is_held}
 use Rattle.sh_ir.specs.Regions.{are_apart, are_disjoint, is_among, own_names}
 use Rattle.sh_ir.specs.Shapes.{argument_types}
-use Rattle.sh_ir.specs.Written.{Written, sharding_numbers, written_by}
+use Rattle.sh_ir.specs.Written.{sharding_numbers, written_by}
 use Rattle.sh_ir.specs.declared.arith_ops.Constant as constant
 use Rattle.sh_ir.specs.declared.bodies.Body.{Body}
 use Rattle.sh_ir.specs.declared.functions.Carry.{Carry}
 use Rattle.sh_ir.specs.declared.functions.Cut.{Cut}
 use Rattle.sh_ir.specs.declared.functions.Func.{Func}
-use Rattle.sh_ir.specs.declared.linalg_ops.AffineMap.{AffineMap}
 use Rattle.sh_ir.specs.declared.modules.CallItem.{CallItem}
 use Rattle.sh_ir.specs.declared.modules.GridItem.{GridItem}
 use Rattle.sh_ir.specs.declared.modules.Module.{Module}
@@ -25,7 +24,6 @@ use Rattle.sh_ir.specs.declared.operations.OpKind.{OpKind}
 use Rattle.sh_ir.specs.declared.operations.OpKind.TheVariants as op_kind
 use Rattle.sh_ir.specs.declared.operations.Return as declared_return
 use Rattle.sh_ir.specs.declared.types.ValueType.{ValueType}
-use Rattle.sh_ir.specs.declared.types.ValueType.TheVariants as type
 use Rattle.sh_print.specs.Layout.Piece.{line_end}
 use Rattle.sh_print.specs.Tokens.{defined, kind_pieces, op_pieces, return_pieces, scope_of, text_of}
 use Rattle.sh_print.specs.Values.{Scope}
@@ -38,9 +36,10 @@ use Rattle.sh_print_laws.proofs.ItemForms.{ArgumentFits, CarryFits, CutFits}
 use Rattle.sh_print_laws.proofs.LoopForms.{RegionNames}
 use Rattle.sh_print_laws.proofs.MapForms.{SmallMap}
 use Rattle.sh_print_laws.proofs.Members.{Member, all_of, behind_all, front_all, in_chosen, in_first, in_flat, in_map, in_second, of_all, of_each_part, of_parts, of_test}
-use Rattle.sh_print_laws.proofs.ModuleForms.{FuncFits, GridFits, ModuleFits}
+use Rattle.sh_print_laws.proofs.ModuleForms.{FuncFits, GridFits}
 use Rattle.sh_print_laws.proofs.Owners.{AreDisjoint, FuncNames, IsDefined, OpNames, owns_in}
-use Rattle.sh_print_laws.proofs.PrintableNames.{among_member, apart_names, disjoint_names, func_types_spelled, name_defined, name_of_func, not_own, not_true, op_written, region_names_of, texts_apart, types_spelled}
+use Rattle.sh_print_laws.proofs.DenseForms.{not_true}
+use Rattle.sh_print_laws.proofs.PrintableNames.{among_member, apart_names, disjoint_names, func_types_spelled, name_defined, name_of_func, not_own, op_written, region_names_of, texts_apart, types_spelled}
 use Rattle.sh_print_laws.proofs.SideForms.{AreOutside, OpFits}
 use Rattle.sh_print_laws.proofs.Tests.{all_parts, and_parts}
 

@@ -1,28 +1,26 @@
 -- What being printable says of the names of functions and regions.
-use Rattle.std.proofs.Common.{◌≡◌, ◌∙◌, ◌⊎◌, inl, inr, ◌<◌, ◌≤◌, ◌^◌, ◌||◌, ◌&&◌, ℕ, zero, suc, Bool, true, false, not, nat_eq, List, [], ◌∷◌, ◌++◌, map, drop, length, Option, Some, None, refl, ap, sym, subst, arith, if◌then◌else◌, true≢false}
-use Rattle.std.specs.Prelude.{IsTrue, MatchOption, ⊤, filter, filter_map, flat_map, option_to_list, unwrap_or}
-use Rattle.std.specs.List.{AllByRecursion, cons_option, list_all, list_any}
-use Rattle.std.specs.Option.{option_map_or}
+use Rattle.std.proofs.Common.{◌≡◌, ◌∙◌, ◌⊎◌, inl, inr, ◌<◌, ◌^◌, ℕ, zero, suc, Bool, true, false, not, nat_eq, List, [], ◌∷◌, ◌++◌, map, drop, length, Some, refl, ap, sym, subst, arith, if◌then◌else◌, true≢false}
+use Rattle.std.specs.Prelude.{MatchOption, ⊤, filter, flat_map, option_to_list, unwrap_or}
+use Rattle.std.specs.List.{AllByRecursion, list_all}
 use Rattle.std.proofs.lemmas.Bool.{cases_Bool, eqb-true, eq-eqb, or_cases, or_left, or_right}
-use Rattle.std.proofs.lemmas.List.{append-nil}
-use Rattle.sh_alike.proofs.Renaming.{op_names}
-use Rattle.sh_ir.specs.Formed.{Captures, IsFormed, all_written, bodies_in, body_ops_of, call_constants, constants_of, func_names, func_types, has_own_body_names, is_block, is_spelled, is_spelled_type, item_numbers, op_texts, op_types, ops_of, types_in}
+use Rattle.sh_ir.specs.Formed.{IsFormed, all_written, bodies_in, body_ops_of, call_constants, func_names, func_types, has_own_body_names, is_block, is_spelled, is_spelled_type, item_numbers, op_texts, op_types, ops_of, types_in}
 use Rattle.sh_ir.specs.Literals.{is_held}
 use Rattle.sh_ir.specs.Regions.{are_apart, are_disjoint, captured_by, first_occurrences, is_among, outer_uses, outside, own_names}
-use Rattle.sh_ir.specs.Written.{Written, written_by, written_in_body}
+use Rattle.sh_ir.specs.Written.{written_by, written_in_body}
 use Rattle.sh_ir.specs.declared.bodies.Body.{Body}
 use Rattle.sh_ir.specs.declared.bodies.BodyOp.{BodyOp}
 use Rattle.sh_ir.specs.declared.functions.Func.{Func}
 use Rattle.sh_ir.specs.declared.modules.Module.{Module}
 use Rattle.sh_ir.specs.declared.operations.Op.{Op}
 use Rattle.sh_print.specs.Tokens.{scope_of, scope_of_body}
-use Rattle.sh_print.specs.Values.{Scope, each_once, name_in, name_text}
-use Rattle.sh_print_laws.specs.Printable.{HasFewWords, IsNamed, IsPrintable, IsRegionNamed, names_defined}
+use Rattle.sh_print.specs.Values.{Scope, name_in, name_text}
+use Rattle.sh_print_laws.specs.Printable.{IsNamed, IsPrintable, IsRegionNamed, names_defined}
 use Rattle.sh_print_laws.specs.ReadsBack.{AreWritten, is_whole}
 use Rattle.sh_print_laws.proofs.BlockNames.{argument_texts, each_once_length}
+use Rattle.sh_print_laws.proofs.DenseForms.{not_true}
 use Rattle.sh_print_laws.proofs.LoopForms.{IsUsed, RegionNames, region_text}
-use Rattle.sh_print_laws.proofs.Members.{Member, all_of, in_chosen, in_first, in_flat, in_map, in_second, of_all, of_each_part, of_parts, of_test}
-use Rattle.sh_print_laws.proofs.Owners.{AreDisjoint, IsDefined, owns_in}
+use Rattle.sh_print_laws.proofs.Members.{Member, all_of, in_chosen, in_first, in_flat, in_map, in_second, of_all, of_parts, of_test}
+use Rattle.sh_print_laws.proofs.Owners.{IsDefined}
 use Rattle.sh_print_laws.proofs.Positions.{among_each, is_inner_text, is_outer_text, outer_texts_apart, outside_text, own_texts_apart}
 use Rattle.sh_print_laws.proofs.RegionForms.{StepFits}
 use Rattle.sh_print_laws.proofs.Tests.{all_parts, and_parts}
@@ -49,10 +47,6 @@ module _ {X : Type 0} where
     | inl a ↦ inl (inr a)
     | inr b ↦ inr b
   ]
-
-pub not_true : (b : Bool) → not b ≡ true → b ≡ false
-not_true false h = refl
-not_true true h = absurd (let e : false ≡ true = h in cc)
 
 -- a name of one list is none of the other
 pub disjoint_names : (xs ys : List ℕ) (a : ℕ) → are_disjoint xs ys ≡ true → Member a xs → is_among ys a ≡ false

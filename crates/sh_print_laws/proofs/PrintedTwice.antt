@@ -4,12 +4,11 @@ use Rattle.std.specs.Prelude.{MatchOption, ⊤, flat_map, option_to_list}
 use Rattle.std.specs.List.{AllByRecursion}
 use Rattle.sh_alike.proofs.Renaming.{op_names}
 use Rattle.sh_alike.specs.Alike.{AreAlike, AreAlikeEach, AreAlikeFuncs, KeepsApart, names_in_use, names_of_body}
-use Rattle.sh_alike.specs.Renamed.{placeless_call, placeless_func, placeless_grid, renamed_func}
+use Rattle.sh_alike.specs.Renamed.{placeless_call, placeless_grid, renamed_func}
 use Rattle.sh_ir.specs.Formed.{IsFormed, OperandsFit, bodies_in, body_ops_of, func_names, op_texts, ops_of}
 use Rattle.sh_ir.specs.Regions.{is_among, own_names}
 use Rattle.sh_ir.specs.Written.{written_by, written_in_body}
 use Rattle.sh_ir.specs.declared.bodies.Body.{Body}
-use Rattle.sh_ir.specs.declared.bodies.BodyOp.{BodyOp}
 use Rattle.sh_ir.specs.declared.functions.Func.{Func}
 use Rattle.sh_ir.specs.declared.modules.CallItem.{CallItem}
 use Rattle.sh_ir.specs.declared.modules.GridItem.{GridItem}
@@ -18,7 +17,7 @@ use Rattle.sh_ir.specs.declared.operations.Op.{Op}
 use Rattle.sh_parse.proofs.OneReading.{same_module}
 use Rattle.sh_parse.proofs.formed.FilesFormed.{read_formed}
 use Rattle.sh_parse.specs.Reads.{Reads}
-use Rattle.sh_print.specs.Layout.{Piece, layout}
+use Rattle.sh_print.specs.Layout.{layout}
 use Rattle.sh_print.specs.Layout.Piece.{closing, line_end, opening}
 use Rattle.sh_print.specs.Spellings.{word}
 use Rattle.sh_print.specs.Tokens.{call_pieces, func_pieces, grid_pieces, items_pieces, module_name, text_of, tokens_of}

@@ -1,7 +1,7 @@
 -- The region of an operation, with the numbers that its names have.
-use Rattle.std.proofs.Common.{◌≡◌, ◌∙◌, ◌⊎◌, inl, inr, ℕ, zero, suc, Bool, true, false, not, ◌&&◌, ◌||◌, nat_eq, List, [], ◌∷◌, ◌++◌, map, Option, Some, None, refl, ap, sym, subst, append_assoc, if◌then◌else◌, true≢false}
+use Rattle.std.proofs.Common.{◌≡◌, ◌∙◌, ◌⊎◌, inl, inr, ℕ, Bool, true, false, not, ◌||◌, nat_eq, List, [], ◌∷◌, ◌++◌, map, Some, None, refl, ap, sym, subst, append_assoc, if◌then◌else◌, true≢false}
 use Rattle.std.specs.Prelude.{flat_map, slice_get}
-use Rattle.std.specs.List.{AllByRecursion, list_any}
+use Rattle.std.specs.List.{AllByRecursion}
 use Rattle.std.proofs.lemmas.Bool.{cases_Bool, eq-eqb, eqb-true, or_cases, or_left, or_right}
 use Rattle.std.proofs.lemmas.List.Folds.{list_any-append}
 use Rattle.sh_alike.proofs.Renaming.{each_behind, each_front}
@@ -10,7 +10,6 @@ use Rattle.sh_base.specs.declared.numbers.Width.{Width}
 use Rattle.sh_base.specs.declared.places.Place.{Place}
 use Rattle.sh_build.specs.Meaning.{arith, made}
 use Rattle.sh_build.specs.Readings.{body_op_in, tail_in}
-use Rattle.sh_build.specs.declared.parts.BodyTail.{BodyTail}
 use Rattle.sh_build.specs.declared.parts.Part.{Part}
 use Rattle.sh_build.specs.declared.parts.Part.TheVariants as part
 use Rattle.sh_grammar.specs.Language as grammar
@@ -25,7 +24,6 @@ use Rattle.sh_literals.specs.Fronts.{before}
 use Rattle.sh_names.specs.Names.{Owned, same_text}
 use Rattle.sh_names.specs.declared.scopes.Role.TheVariants as role
 use Rattle.sh_parse.proofs.formed.NumbersOfNames.{same_numbers}
-use Rattle.sh_print.specs.Layout.{Piece}
 use Rattle.sh_print.specs.Spellings.{width}
 use Rattle.sh_print.specs.Tokens.{body_kind_pieces, body_op_pieces, yield_pieces}
 use Rattle.sh_print.specs.Values.{Scope, name_inside, name_text}
@@ -35,7 +33,7 @@ use Rattle.sh_print_laws.proofs.Keywords as keyword
 use Rattle.sh_print_laws.proofs.OperationForms.{map_same}
 use Rattle.sh_print_laws.proofs.PlainForms.{width_spelled}
 use Rattle.sh_print_laws.proofs.RegionSteps.{enters_yield, opens_generic, opens_operation, own_name, own_number, with_own}
-use Rattle.sh_print_laws.proofs.Rows.{FormTo, Gives, by_row, by_row_entered, end_row, last_form, last_is, row_by, then_form, then_is, then_line_end, then_named, then_token, then_value}
+use Rattle.sh_print_laws.proofs.Rows.{FormTo, Gives, by_row_entered, end_row, last_form, row_by, then_form, then_is, then_line_end, then_named, then_token, then_value}
 use Rattle.sh_print_laws.proofs.Standing.{Spot, Standing, among, enters_plain, naming, num_by, owned}
 use Rattle.sh_print_laws.proofs.Walks.{State, enter}
 

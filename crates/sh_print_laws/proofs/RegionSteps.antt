@@ -1,5 +1,5 @@
 -- The steps of a region: its block arguments, its operations and its yield.
-use Rattle.std.proofs.Common.{◌≡◌, ◌∙◌, ◌<◌, ◌≤◌, inl, inr, ℕ, zero, suc, Bool, true, false, not, ◌&&◌, ◌||◌, nat_eq, List, [], ◌∷◌, ◌++◌, reverse, Option, Some, None, refl, ap, sym, subst, arith, if◌then◌else◌}
+use Rattle.std.proofs.Common.{◌≡◌, ◌∙◌, ◌<◌, ◌≤◌, ℕ, suc, Bool, true, false, not, ◌&&◌, ◌||◌, nat_eq, List, [], ◌∷◌, ◌++◌, reverse, Some, refl, ap, sym, subst, arith, if◌then◌else◌}
 use Rattle.std.specs.List.{AllByRecursion, list_any}
 use Rattle.std.proofs.Math.Bool.{or-false}
 use Rattle.std.proofs.Math.Dec.{eqb-suc-zero}
@@ -15,20 +15,18 @@ use Rattle.sh_ir.specs.declared.functions.Arg.{Arg}
 use Rattle.sh_ir.specs.declared.types.ValueType.TheVariants as type
 use Rattle.sh_lex.specs.declared.tokens.TokenKind.TheVariants as kind
 use Rattle.sh_names.specs.Names.{Mention, Owned, fits_behind, inside, keeps_rules, is_own, mention_of, names_by_role, role_in, same_text}
-use Rattle.sh_names.specs.declared.scopes.Role.{Role}
 use Rattle.sh_names.specs.declared.scopes.Role.TheVariants as role
 use Rattle.sh_names.specs.declared.scopes.Scope.{Scope}
 use Rattle.sh_print.specs.Layout.{Piece}
 use Rattle.sh_print.specs.Spellings.{sign, width}
-use Rattle.sh_print.specs.Tokens.{block_argument, block_arguments, more_block_arguments}
+use Rattle.sh_print.specs.Tokens.{block_argument, more_block_arguments}
 use Rattle.sh_print.specs.Values.{name_text, value}
-use Rattle.sh_print.specs.declared.names.Name.{Name}
 use Rattle.sh_print.specs.declared.names.Name.TheVariants.{BlockArgument}
 use Rattle.sh_print_laws.specs.TokensOf.{lexeme}
 use Rattle.sh_print_laws.proofs.Keywords as keyword
 use Rattle.sh_print_laws.proofs.PlainForms.{width_spelled}
-use Rattle.sh_print_laws.proofs.Rows.{FormTo, Naming, RowTo, by_row, by_row_entered, end_row, last_is, row_by, then_is, then_named, then_token}
-use Rattle.sh_print_laws.proofs.Standing.{IsBelow, Mentioned, Spot, Standing, among, defined_still, defines_by, enters_plain, first_by, mentioned_by, behind_at, behind_func, behind_op, behind_region, behind_roles, naming, num_by, owned, owns}
+use Rattle.sh_print_laws.proofs.Rows.{FormTo, by_row, by_row_entered, end_row, last_is, row_by, then_is, then_named, then_token}
+use Rattle.sh_print_laws.proofs.Standing.{IsBelow, Mentioned, Spot, Standing, among, defined_still, defines_by, first_by, mentioned_by, naming, num_by, owned, owns}
 use Rattle.sh_print_laws.proofs.Walks.{State, enter, step}
 
 -- A step of a region begins with a name that it defines.

@@ -1,5 +1,5 @@
 -- Names by their positions are the same where ids are renamed apart.
-use Rattle.std.proofs.Common.{◌≡◌, ◌∙◌, inl, inr, ◌<◌, ◌+◌, ◌-◌, ℕ, suc, Bool, true, false, not, cond, nat_eq, nat_lt, List, [], ◌∷◌, ◌++◌, get_or, map, take, drop, length, Option, Some, None, refl, ap, sym, subst, arith, zero, if◌then◌else◌}
+use Rattle.std.proofs.Common.{◌≡◌, ◌∙◌, inl, inr, ◌<◌, ◌-◌, ℕ, suc, nat_eq, nat_lt, List, [], ◌∷◌, ◌++◌, get_or, map, take, drop, length, Option, Some, None, refl, ap, sym, subst, arith, zero, if◌then◌else◌}
 use Rattle.std.specs.Prelude.{flat_map, fold, option_map, option_to_list, position}
 use Rattle.std.specs.List.{AllByRecursion, position_or_len}
 use Rattle.std.proofs.lemmas.Bool.{cases_Bool}
@@ -15,7 +15,7 @@ use Rattle.sh_print.specs.Values.{Scope, each_once, name_at, name_in, name_insid
 use Rattle.sh_print.specs.declared.names.Name.{Name}
 use Rattle.sh_print.specs.declared.names.Name.TheVariants.{Argument, Value, BlockArgument, BodyValue}
 use Rattle.sh_print_laws.specs.Printable.{names_defined}
-use Rattle.sh_print_laws.proofs.Captures.{AllUsed, among_renamed, eq_renamed}
+use Rattle.sh_print_laws.proofs.Captures.{among_renamed, eq_renamed}
 use Rattle.sh_print_laws.proofs.Positions.{once_more}
 
 mapped_length : {X Y : Type 0} (f : X → Y) (xs : List X) → length (map f xs) ≡ length xs

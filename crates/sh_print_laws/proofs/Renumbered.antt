@@ -1,6 +1,6 @@
 -- Words that are numbered by first occurrence are told by which of them are the same.
-use Rattle.std.proofs.Common.{◌≡◌, ◌∙◌, inl, inr, ◌<◌, ◌≤◌, ◌+◌, ◌^◌, ℕ, suc, Bool, true, false, ◌&&◌, nat_le, nat_lt, List, [], ◌∷◌, ◌++◌, map, take, drop, length, Some, None, refl, ap, sym, subst, arith, codes, ltb-true, ltb-false}
-use Rattle.std.specs.Prelude.{decimal, max}
+use Rattle.std.proofs.Common.{◌≡◌, ◌∙◌, inl, inr, ◌<◌, ◌≤◌, ◌+◌, ◌^◌, ℕ, suc, true, nat_le, nat_lt, List, [], ◌∷◌, ◌++◌, map, drop, None, refl, ap, sym, subst, arith, ltb-true, ltb-false}
+use Rattle.std.specs.Prelude.{max}
 use Rattle.std.specs.List.{AllByRecursion, list_all}
 use Rattle.std.proofs.lemmas.Bool.{cases_Bool, leb-true}
 use Rattle.std.proofs.lemmas.Fmt.{decimal_injective}

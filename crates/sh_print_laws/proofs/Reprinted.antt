@@ -1,12 +1,10 @@
 -- Modules that are alike have one text.
-use Rattle.std.proofs.Common.{◌≡◌, ◌∙◌, ◌<◌, ◌+◌, ◌&&◌, ℕ, zero, suc, Bool, true, false, List, [], ◌∷◌, ◌++◌, get_or, map, take, drop, length, Option, Some, None, refl, ap, sym, subst, arith, codes, if◌then◌else◌}
+use Rattle.std.proofs.Common.{◌≡◌, ◌∙◌, ◌<◌, ◌+◌, ◌&&◌, ℕ, List, [], ◌∷◌, ◌++◌, get_or, map, take, drop, length, Option, Some, None, refl, ap, arith, codes, if◌then◌else◌}
 use Rattle.std.specs.Prelude.{MatchOption, ⊤, ℤ, flat_map, option_map, option_to_list}
 use Rattle.std.specs.List.{AllByRecursion}
-use Rattle.sh_alike.proofs.Renaming.{op_names}
-use Rattle.sh_alike.specs.Alike.{AreAlike, AreAlikeEach, AreAlikeFuncs, names_in_use, names_of_body}
-use Rattle.sh_alike.specs.Renamed.{placeless_call, placeless_func, placeless_grid, renamed_arg, renamed_body, renamed_body_op, renamed_func, renamed_kind, renamed_op}
-use Rattle.sh_ir.specs.Formed.{IsFormed, OperandsFit, bodies_in, body_ops_of, func_names, op_texts, ops_of}
-use Rattle.sh_ir.specs.Regions.{is_among, own_names}
+use Rattle.sh_alike.specs.Renamed.{renamed_arg, renamed_body, renamed_body_op, renamed_func, renamed_kind, renamed_op}
+use Rattle.sh_ir.specs.Formed.{OperandsFit}
+use Rattle.sh_ir.specs.Regions.{own_names}
 use Rattle.sh_ir.specs.Written.{written_by, written_in_body}
 use Rattle.sh_ir.specs.declared.bodies.Body.{Body}
 use Rattle.sh_ir.specs.declared.bodies.BodyKind.{BodyKind}
@@ -15,23 +13,18 @@ use Rattle.sh_ir.specs.declared.bodies.BodyOp.{BodyOp}
 use Rattle.sh_ir.specs.declared.functions.Arg.{Arg}
 use Rattle.sh_ir.specs.declared.functions.Func.{Func}
 use Rattle.sh_ir.specs.declared.linalg_ops.InsOuts.{InsOuts}
-use Rattle.sh_ir.specs.declared.modules.CallItem.{CallItem}
-use Rattle.sh_ir.specs.declared.modules.GridItem.{GridItem}
-use Rattle.sh_ir.specs.declared.modules.Module.{Module}
 use Rattle.sh_ir.specs.declared.operations.Op.{Op}
 use Rattle.sh_ir.specs.declared.operations.OpKind.{OpKind}
 use Rattle.sh_ir.specs.declared.operations.OpKind.TheVariants as op_kind
 use Rattle.sh_ir.specs.declared.types.ValueType.{ValueType}
 use Rattle.sh_lex.specs.declared.tokens.TokenKind.TheVariants as kind
-use Rattle.sh_print.specs.Layout.{Piece, layout}
+use Rattle.sh_print.specs.Layout.{Piece}
 use Rattle.sh_print.specs.Layout.Piece.{closing, line_end, opening, token}
 use Rattle.sh_print.specs.Spellings.{list_of, rest_of_list, sign, word}
-use Rattle.sh_print.specs.Tokens.{all_gather_pieces, all_reduce_pieces, all_slice_pieces, all_to_all_pieces, along_pieces, are_none, axis_pieces, binary_pieces, block_arguments, body_kind_pieces, body_op_pieces, body_pieces, call_op_pieces, call_pieces, call_types, cast_pieces, collapse_pieces, compare_pieces, defined, device_pieces, expand_pieces, extract_pieces, flag, func_pieces, generic_attributes, generic_pieces, grid_pieces, header_pieces, index_cast_pieces, inner, ins, ins_outs, ins_values, insert_pieces, is_empty, items_pieces, iterators_pieces, join_pieces, kind_pieces, maps_pieces, maybe_ins, module_name, numbers_pieces, of_type, op_pieces, operand, operands_pieces, ops_pieces, outs, outs_values, pad_pieces, parameter, parameters_pieces, reduce_pieces, reduce_scatter_pieces, results_pieces, return_pieces, scope_of, scope_of_body, select_pieces, shard_pieces, shift_pieces, signature_pieces, structured_pieces, symbol, take_pieces, text_of, to_type, tokens_of, typed_values, types as type_list, update_halo_pieces, value_in, values, yield_pieces}
+use Rattle.sh_print.specs.Tokens.{all_gather_pieces, all_reduce_pieces, all_slice_pieces, all_to_all_pieces, along_pieces, are_none, axis_pieces, binary_pieces, block_arguments, body_kind_pieces, body_op_pieces, body_pieces, call_op_pieces, call_types, cast_pieces, collapse_pieces, compare_pieces, defined, device_pieces, expand_pieces, extract_pieces, flag, func_pieces, generic_attributes, generic_pieces, header_pieces, index_cast_pieces, ins, ins_outs, ins_values, insert_pieces, is_empty, iterators_pieces, join_pieces, kind_pieces, maps_pieces, maybe_ins, numbers_pieces, of_type, op_pieces, operands_pieces, ops_pieces, outs, outs_values, pad_pieces, parameter, parameters_pieces, reduce_pieces, reduce_scatter_pieces, results_pieces, return_pieces, scope_of, scope_of_body, select_pieces, shard_pieces, shift_pieces, signature_pieces, structured_pieces, symbol, take_pieces, to_type, typed_values, types as type_list, update_halo_pieces, value_in, values, yield_pieces}
 use Rattle.sh_print.specs.Values.{Scope, name_in, name_inside, value}
 use Rattle.sh_print.specs.declared.names.Name.{Name}
 use Rattle.sh_print_laws.specs.Printable.{names_defined}
-use Rattle.sh_print_laws.proofs.Members.{Member, all_of, in_chosen, in_first, in_flat, in_map, in_second, of_all}
-use Rattle.sh_print_laws.proofs.PrintableNames.{among_member, member_among}
 use Rattle.sh_print_laws.proofs.RenamedNames.{AreRenamed, SameNames, body_scopes, drop_mapped, first_same, func_scopes, inside_same, name_same, nth_same, rest_same, take_mapped}
 
 module _ (r : ℕ → ℕ) (Used : ℕ → Type 0) (apart : (a b : ℕ) → Used a → Used b → r a ≡ r b → a ≡ b) where

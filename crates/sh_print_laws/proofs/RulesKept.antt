@@ -1,28 +1,25 @@
 -- A formed module that keeps the rules on names and literals is printable, if it isn't too large.
-use Rattle.std.proofs.Common.{◌≡◌, ◌∙◌, ◌⊎◌, inl, inr, ◌+◌, ◌||◌, ◌&&◌, ℕ, zero, suc, Bool, true, false, not, nat_eq, List, [], ◌∷◌, ◌++◌, map, take, drop, length, Option, Some, None, refl, ap, sym, subst, arith, if◌then◌else◌, true≢false}
-use Rattle.std.specs.Prelude.{IsTrue, MatchOption, ⊤, filter, flat_map, is_some, option_to_list, unwrap_or}
-use Rattle.std.specs.List.{AllByRecursion, cons_option, list_all}
+use Rattle.std.proofs.Common.{◌≡◌, ◌∙◌, ◌⊎◌, inl, inr, ◌+◌, ℕ, zero, suc, Bool, true, false, not, nat_eq, List, [], ◌∷◌, ◌++◌, map, take, drop, length, Option, Some, None, refl, ap, sym, subst, arith, if◌then◌else◌, true≢false}
+use Rattle.std.specs.Prelude.{MatchOption, ⊤, filter, flat_map, is_some, option_to_list, unwrap_or}
+use Rattle.std.specs.List.{cons_option, list_all}
 use Rattle.std.specs.Option.{option_map_or}
-use Rattle.std.proofs.lemmas.Bool.{and_from, cases_Bool, eqb-true, or_cases, or_left, or_right}
+use Rattle.std.proofs.lemmas.Bool.{and_from, cases_Bool, eqb-true, or_cases}
 use Rattle.std.proofs.lemmas.List.{take-append-drop}
 use Rattle.std.proofs.lemmas.List.Folds.{list_all-append}
 use Rattle.sh_base.specs.declared.numbers.Width.{Width}
 use Rattle.sh_base.specs.declared.places.Place.{Place}
-use Rattle.sh_base.specs.declared.places.Refusal.{Refusal}
 use Rattle.sh_base.specs.declared.rules.Rule.{Rule}
 use Rattle.sh_base.specs.declared.rules.Rule.TheVariants.{V1, V2, V5}
 use Rattle.sh_ir.specs.Attributes.{numbers_fit}
 use Rattle.sh_ir.specs.Faults.{KeepsModule, call_faults, faults_by, func_faults, funcs_faults, grid_faults, keeps_call, keeps_func, return_faults}
 use Rattle.sh_ir.specs.Formed.{IsFormed, OperandsFit, all_written, bodies_in, body_ops_of, call_constants, constants_of, func_names, op_texts, ops_of}
-use Rattle.sh_ir.specs.Literals.{is_broken}
 use Rattle.sh_ir.specs.Numbers.{are_distinct}
 use Rattle.sh_ir.specs.RegionRules.{block_of, body_number_fits, is_there, keeps_at_yield, keeps_in_region, own_after, with_block}
-use Rattle.sh_ir.specs.Regions.{captured_by, first_occurrences, is_among, outer_uses, outside, own_names}
+use Rattle.sh_ir.specs.Regions.{captured_by, first_occurrences, is_among, outer_uses, outside}
 use Rattle.sh_ir.specs.Rules.{KeepsOps, body_faults, defines_new, faults_at, keeps, loop_count, op_faults, ops_faults, refusal_at, region_faults, uses_defined}
 use Rattle.sh_ir.specs.Scope.{Scope, Value, is_defined, scope_after, scope_of, value_named, value_of, values_after, with_args}
 use Rattle.sh_ir.specs.Typing.{written_operands}
 use Rattle.sh_ir.specs.Written.{Written, written_by, written_in_body}
-use Rattle.sh_ir.specs.declared.arith_ops.Constant as constant
 use Rattle.sh_ir.specs.declared.bodies.Body.{Body}
 use Rattle.sh_ir.specs.declared.bodies.BodyKind.{BodyKind}
 use Rattle.sh_ir.specs.declared.bodies.BodyKind.TheVariants as body_kind
@@ -37,8 +34,9 @@ use Rattle.sh_ir.specs.declared.operations.OpKind.TheVariants as op_kind
 use Rattle.sh_ir.specs.declared.types.ValueType.{ValueType}
 use Rattle.sh_print_laws.specs.Printable.{HasFewNames, IsNamed, IsPrintable, IsRegionNamed, names_defined}
 use Rattle.sh_print_laws.specs.ReadsBack.{is_whole}
-use Rattle.sh_print_laws.proofs.Members.{Member, all_of, in_first, in_flat, in_map, in_second, of_all, of_test}
-use Rattle.sh_print_laws.proofs.PrintableNames.{among_member, member_among, member_either, not_true}
+use Rattle.sh_print_laws.proofs.Members.{Member, all_of, in_first, in_flat, in_second, of_all, of_test}
+use Rattle.sh_print_laws.proofs.DenseForms.{not_true}
+use Rattle.sh_print_laws.proofs.PrintableNames.{member_among, member_either}
 use Rattle.sh_print_laws.proofs.Tests.{and_parts}
 
 -- ## Lists and faults

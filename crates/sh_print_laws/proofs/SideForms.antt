@@ -1,19 +1,18 @@
 -- The right side of each kind of operation, and operations with the names that they define.
-use Rattle.std.proofs.Common.{◌≡◌, ◌∙◌, ◌+◌, ℕ, Bool, true, false, not, ◌&&◌, List, [], ◌∷◌, ◌++◌, map, Option, Some, None, refl, ap, sym, subst, if◌then◌else◌}
-use Rattle.std.specs.Prelude.{IsTrue, MatchOption, ⊤, option_map, option_to_list, codes}
+use Rattle.std.proofs.Common.{◌≡◌, ◌∙◌, ℕ, Bool, true, false, not, List, [], ◌∷◌, ◌++◌, map, Option, Some, None, refl, ap, sym, subst, if◌then◌else◌}
+use Rattle.std.specs.Prelude.{IsTrue, MatchOption, ⊤}
 use Rattle.std.specs.List.{AllByRecursion, list_all}
 use Rattle.std.specs.Option.{option_map_or}
-use Rattle.sh_alike.proofs.Renaming.{each_behind, each_front}
 use Rattle.sh_alike.specs.Renamed.{no_place, renamed_kind, renamed_op}
 use Rattle.sh_base.specs.declared.places.Place.{Place}
-use Rattle.sh_build.specs.Meaning.{defining, made, operands_of, side}
+use Rattle.sh_build.specs.Meaning.{defining, made, operands_of}
 use Rattle.sh_build.specs.declared.parts.Part.{Part}
 use Rattle.sh_build.specs.declared.parts.Part.TheVariants as part
 use Rattle.sh_grammar.specs.Lexemes.{Lexeme}
 use Rattle.sh_grammar.specs.declared.forms.Form.{Form}
 use Rattle.sh_grammar.specs.declared.forms.Form.TheVariants as forms
 use Rattle.sh_ir.specs.Classes.{is_return}
-use Rattle.sh_ir.specs.Formed.{Captures, asks_where_allowed, has_no_index, is_numbered, is_on_index, is_spelled_type}
+use Rattle.sh_ir.specs.Formed.{Captures, asks_where_allowed, is_numbered, is_on_index, is_spelled_type}
 use Rattle.sh_ir.specs.Parts.{op_of}
 use Rattle.sh_ir.specs.Regions.{is_among, own_names}
 use Rattle.sh_ir.specs.Written.{written_by}
@@ -28,12 +27,12 @@ use Rattle.sh_ir.specs.declared.operations.OpKind.TheVariants as op_kind
 use Rattle.sh_ir.specs.declared.types.ValueType.{ValueType}
 use Rattle.sh_ir.specs.declared.types.ValueType.TheVariants as type
 use Rattle.sh_names.specs.Names.{Owned}
-use Rattle.sh_names.specs.declared.scopes.Role.TheVariants as role
 use Rattle.sh_print.specs.Layout.{Piece}
 use Rattle.sh_print.specs.Tokens.{are_none, defined, kind_pieces, op_pieces, return_pieces, typed_values}
-use Rattle.sh_print.specs.Values.{Scope, name_in, name_text}
+use Rattle.sh_print.specs.Values.{Scope}
 use Rattle.sh_print_laws.specs.ReadsBack.{IsWritten, is_simple}
-use Rattle.sh_print_laws.proofs.Between.{Between, enters_operation, enters_return, outside_spot}
+use Rattle.sh_print_laws.proofs.Between.{Between, outside_spot}
+use Rattle.sh_print_laws.proofs.DenseForms.{not_true}
 use Rattle.sh_print_laws.proofs.Keywords as keyword
 use Rattle.sh_print_laws.proofs.KindForms.{first, kind_spelled}
 use Rattle.sh_print_laws.proofs.LoopForms.{Amid, IsSide, LoopFits, RegionNames, base, generic_spelled, reader, reader_base, reader_of, reduce_spelled}
@@ -41,8 +40,8 @@ use Rattle.sh_print_laws.proofs.MapForms.{SmallMap, maps_spelled}
 use Rattle.sh_print_laws.proofs.OperationForms.{kind_kept, map_same}
 use Rattle.sh_print_laws.proofs.PlainForms.{types_spelled}
 use Rattle.sh_print_laws.proofs.Renumbered.{maps_same}
-use Rattle.sh_print_laws.proofs.Rows.{FormTo, MadeTo, RowTo, by_row, by_row_entered, end_row, last_form, last_is, row_to_end, then_form, then_is, then_line_end, then_token, then_value}
-use Rattle.sh_print_laws.proofs.Standing.{Standing, naming, num_by, owned}
+use Rattle.sh_print_laws.proofs.Rows.{FormTo, by_row, by_row_entered, end_row, last_is, row_to_end, then_form, then_is, then_line_end, then_token, then_value}
+use Rattle.sh_print_laws.proofs.Standing.{Standing, naming, num_by}
 use Rattle.sh_print_laws.proofs.Tests.{all_parts, and_parts}
 use Rattle.sh_print_laws.proofs.ValueForms.{values_spelled}
 use Rattle.sh_print_laws.proofs.Walks.{State, enter}
@@ -64,10 +63,6 @@ form_so so f ts σ are h = let r = f ts σ are h in
 no_indices : (ops : List BodyOp) → list_all (λ x. not (is_on_index x.kind)) ops ≡ true → AllByRecursion (λ x. is_on_index x.kind ≡ false) ops
 no_indices [] h = tt
 no_indices (x ∷ ops) h = let both = and_parts (not (is_on_index x.kind)) (list_all (λ x. not (is_on_index x.kind)) ops) h in (not_true (is_on_index x.kind) both.0, no_indices ops both.1)
-  where
-    not_true : (b : Bool) → not b ≡ true → b ≡ false
-    not_true false h = refl
-    not_true true h = absurd (let e : false ≡ true = h in cc)
 
 -- the kinds of operations that define a value
 data KindView : OpKind → Type 0 where

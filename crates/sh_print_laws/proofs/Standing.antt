@@ -1,8 +1,8 @@
 -- Where a reading of a printed module stands, and what names mean there.
-use Rattle.std.proofs.Common.{◌≡◌, ◌∙◌, ◌⊎◌, inl, inr, append_assoc, ◌<◌, ◌≤◌, ◌+◌, ℕ, zero, suc, Bool, true, false, not, ◌&&◌, ◌||◌, nat_eq, List, [], ◌∷◌, ◌++◌, reverse, Option, Some, None, refl, ap, sym, subst, arith, codes, if◌then◌else◌, true≢false}
+use Rattle.std.proofs.Common.{◌≡◌, ◌∙◌, ◌⊎◌, inl, inr, append_assoc, ◌<◌, ◌≤◌, ℕ, suc, Bool, true, false, not, ◌&&◌, ◌||◌, nat_eq, List, [], ◌∷◌, ◌++◌, reverse, Option, Some, None, refl, ap, sym, subst, arith, if◌then◌else◌}
 use Rattle.std.specs.List.{AllByRecursion, list_any}
 use Rattle.std.proofs.Math.Bool.{or-false}
-use Rattle.std.proofs.lemmas.Bool.{and_from, and_parts, eq-eqb, eqb-true}
+use Rattle.std.proofs.lemmas.Bool.{and_from, eq-eqb}
 use Rattle.std.proofs.lemmas.Grind.{reverse_onto}
 use Rattle.std.proofs.lemmas.List.{append-nil, reverse-append}
 use Rattle.std.proofs.lemmas.List.Folds.{list_any-append}
@@ -12,7 +12,7 @@ use Rattle.sh_grammar.specs.declared.forms.Form.{Form}
 use Rattle.sh_grammar.specs.declared.forms.Form.TheVariants as forms
 use Rattle.sh_lex.specs.declared.tokens.TokenKind.{TokenKind}
 use Rattle.sh_lex.specs.declared.tokens.TokenKind.TheVariants as kind
-use Rattle.sh_names.specs.Names.{Mention, Owned, all_keep, behind, defines_for, fits_behind, fits_device, inside, is_own, keeps_rules, mention_of, names_by_role, region_of_use, role_by_kind, role_in, same_text, value_name}
+use Rattle.sh_names.specs.Names.{Mention, Owned, all_keep, behind, defines_for, fits_behind, fits_device, inside, is_own, keeps_rules, mention_of, names_by_role, region_of_use, role_by_kind, role_in, same_text}
 use Rattle.sh_names.specs.declared.scopes.Role.{Role}
 use Rattle.sh_names.specs.declared.scopes.Role.TheVariants as role
 use Rattle.sh_names.specs.declared.scopes.Scope.{Scope}

@@ -1,15 +1,12 @@
 -- The tokens of a tree one by one: where each stands, and what the parts of the tree are by the numbers
 -- that the tokens have there.
-use Rattle.std.proofs.Common.{◌≡◌, ◌+◌, ◌∙◌, ℕ, suc, List, [], ◌∷◌, ◌++◌, length, map, drop, Some, refl, ap, sym, append_assoc, length-append}
+use Rattle.std.proofs.Common.{◌≡◌, ◌+◌, ◌∙◌, ℕ, suc, List, [], ◌∷◌, ◌++◌, length, map, drop, refl, ap, sym, append_assoc, length-append}
 use Rattle.std.proofs.lemmas.List.{append-nil}
 use Rattle.sh_build.specs.Meaning.{made}
 use Rattle.sh_build.specs.declared.parts.Part.{Part}
 use Rattle.sh_grammar.specs.Grammar.{Trees, tokens}
 use Rattle.sh_grammar.specs.Grammar.Trees.{form, nothing, token}
 use Rattle.sh_grammar.specs.Lexemes.{Lexeme}
-use Rattle.sh_grammar.specs.declared.forms.Form.{Form}
-use Rattle.sh_names.specs.declared.scopes.Scope.{Scope}
-use Rattle.sh_names.specs.Names.{Mention, at_start, behind, inside, mention_of}
 use Rattle.sh_parse.specs.Reads.{leaf, leaves, parts_of}
 pub use Rattle.sh_parse.proofs.formed.Walks.{State, enter, past, start, step}
 
