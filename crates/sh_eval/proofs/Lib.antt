@@ -5,3 +5,4 @@ pub mod ReshapeLaws
 pub mod LayoutLaws
 pub mod KindLaws
 pub mod ValueLaws
+pub mod EvaluationLaws

@@ -3,3 +3,4 @@ pub mod Slices
 pub mod Rules
 pub mod Shapes
 pub mod Values
+pub mod Evaluations

@@ -5,6 +5,7 @@
 mod constants;
 mod creators;
 mod elements;
+mod evaluation;
 mod layouts;
 mod pieces;
 mod reading;
@@ -17,4 +18,5 @@ mod values;
 
 pub use constants::{constant, undefined};
 pub use elements::{element_of_one, element_of_three, element_of_two};
+pub use evaluation::{OpSeat, eval_borrowed, eval_op};
 pub use sh_loops::Formula;
