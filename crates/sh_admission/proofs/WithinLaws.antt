@@ -23,16 +23,9 @@ use Rattle.sh_ir.specs.Rules.{faults_at, keeps, op_faults, op_types_of, ops_faul
 use Rattle.sh_ir.specs.Scope.{Scope, scope_after, scope_of}
 use Rattle.sh_ir.specs.Shapes.{argument_types}
 use Rattle.sh_ir.specs.Written.{written_by}
+use Rattle.sh_ir.proofs.KeptLaws.{left_empty, right_empty}
 use Rattle.sh_admission.specs.Found.{IsReadyFunc, IsReadyNote, IsWithin}
 use Rattle.sh_admission.specs.Notes.{is_note}
-
-left_empty : (a b : List Refusal) → a ++ b ≡ [] → a ≡ []
-left_empty [] b e = refl
-left_empty (r ∷ a) b e = absurd (cc)
-
-right_empty : (a b : List Refusal) → a ++ b ≡ [] → b ≡ []
-right_empty [] b e = e
-right_empty (r ∷ a) b e = absurd (cc)
 
 left_true : (a b : Bool) → (a && b) ≡ true → a ≡ true
 left_true true b e = refl

@@ -23,17 +23,10 @@ use Rattle.sh_ir.specs.RegionRules.{block_of, keeps_at_yield, keeps_in_region, o
 use Rattle.sh_ir.specs.Rules.{body_faults, faults_at, keeps, loop_count, op_faults, ops_faults, refusal_at, region_faults}
 use Rattle.sh_ir.specs.Scope.{Scope, Value, scope_after, scope_of}
 use Rattle.sh_ir.specs.Written.{written_by}
+use Rattle.sh_ir.proofs.KeptLaws.{left_empty, right_empty}
 use Rattle.sh_sharding.specs.CutRules.{IsCutFault, KeepsCuts}
 use Rattle.sh_verify.specs.Least.{StandsIn}
 use Rattle.sh_verify.specs.Verified.{IsFault, IsVerified}
-
-left_empty : (a b : List Refusal) → a ++ b ≡ [] → a ≡ []
-left_empty [] b e = refl
-left_empty (r ∷ a) b e = absurd (cc)
-
-right_empty : (a b : List Refusal) → a ++ b ≡ [] → b ≡ []
-right_empty [] b e = e
-right_empty (r ∷ a) b e = absurd (cc)
 
 -- two lists in parts: where the parts of both are without a fault, so are those of a third
 joined : (a b c d : List Refusal) {x y : List Refusal} → (a ≡ [] → c ≡ [] → x ≡ []) → (b ≡ [] → d ≡ [] → y ≡ [])

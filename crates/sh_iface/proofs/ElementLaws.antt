@@ -22,6 +22,7 @@ use Rattle.sh_sharding.specs.declared.shardings.Dimension.{Dimension}
 use Rattle.sh_sharding.specs.LocalTypes.{local_dims}
 use Rattle.sh_sharding.specs.Sharding.{ShardingValue, HasNoHalos, IsSharding, counted_cells, unsplit, whole_of}
 use Rattle.sh_sharding.specs.Splits.{TensorSplit, tensor_splitting}
+use Rattle.sh_sharding.proofs.LocalLimits.{few_cells, few_dims}
 use Rattle.sh_sharding.proofs.PartLaws.{extents_few}
 use Rattle.sh_iface.specs.declared.options.Follow.{Follow}
 use Rattle.sh_iface.specs.declared.options.How.TheVariants.{Same}
@@ -33,7 +34,7 @@ use Rattle.sh_iface.specs.Splits.{OptionValue, implied_of, split_of}
 use Rattle.sh_iface.specs.Table.{always, each_follows, follows, loops_where, parallel}
 use Rattle.sh_iface.specs.Valid.{IsValid}
 use Rattle.sh_iface.proofs.ElementCut.{alone_at, element_cut, splits_by}
-use Rattle.sh_iface.proofs.ElementRules.{AreTyped, IsPlace, element_keeps, few_cells, few_dims}
+use Rattle.sh_iface.proofs.ElementRules.{AreTyped, IsPlace, element_keeps}
 use Rattle.sh_iface.proofs.Implied.{plain-implied, unsplit_valid}
 
 -- ---- the loops

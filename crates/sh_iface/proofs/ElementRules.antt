@@ -1,23 +1,14 @@
 -- An element operation at local types keeps the rules of device form.
-use Rattle.std.proofs.Common.{ap₂, ◌≡◌, ℕ, zero, suc, ◌+◌, ◌-◌, ◌*◌, ◌<◌, ◌≤◌, Bool, true, false, ◌&&◌, List, [], ◌∷◌, map, max, length, Option, Some, None, refl, ap, sym, ◌∙◌, arith, subst}
-use Rattle.std.proofs.lemmas.Bool.Decides.{nat_tests}
-use Rattle.std.proofs.lemmas.List.{length-map}
-use Rattle.std.proofs.lemmas.Nat.{mul-le}
-use Rattle.std.specs.Cmp.Lexicographic.{pointwise}
-use Rattle.std.specs.List.{AllByRecursion}
-use Rattle.std.specs.Prelude.{nat_eq, nat_le, nat_lt}
-use Rattle.sh_base.proofs.IndexLaws.{cell_count-some}
-use Rattle.sh_base.specs.Cells.{bits_of}
+use Rattle.std.proofs.Common.{◌≡◌, ℕ, suc, true, List, [], ◌∷◌, map, length, Some, None, refl}
+use Rattle.std.specs.Prelude.{nat_le}
 use Rattle.sh_base.specs.declared.numbers.Width.{Width}
-use Rattle.sh_base.specs.declared.numbers.Width.TheVariants.{I1}
 use Rattle.sh_base.specs.declared.places.Place.{Place}
 use Rattle.sh_base.specs.declared.rules.Rule.{Rule}
 use Rattle.sh_base.specs.declared.rules.Rule.TheVariants.{V1, V2, V3, V4, V5, V6, V8, V9, V10, L2, L4, L6}
 use Rattle.sh_base.specs.Shape.{cell_count, max_cells, max_rank}
 use Rattle.sh_ir.specs.declared.operations.Op.{Op}
 use Rattle.sh_ir.specs.declared.types.Dim.{Dim}
-use Rattle.sh_ir.specs.declared.types.Dim.TheVariants.{Known, Differs}
-use Rattle.sh_ir.specs.Agreement.{same_dim, dims_agree, shapes_agree}
+use Rattle.sh_ir.specs.Agreement.{dims_agree, same_dim}
 use Rattle.sh_ir.specs.Attributes.{numbers_fit}
 use Rattle.sh_ir.specs.Limits.{counted_dim, has_few_dims, has_few_cells, has_few_loops, has_few_inputs}
 use Rattle.sh_ir.specs.Loops.{generic_of}
@@ -27,59 +18,8 @@ use Rattle.sh_ir.specs.Rules.{calls_source, defines_new, has_region_in_order, is
 use Rattle.sh_ir.specs.Scope.{Scope, value_named}
 use Rattle.sh_ir.specs.Typing.{counts_fit, tensor_types, typing_of}
 use Rattle.sh_ir.proofs.KeptLaws.{keeps_next, keeps_op}
-use Rattle.sh_sharding.specs.declared.shardings.Dimension.{Dimension}
-use Rattle.sh_sharding.specs.LocalTypes.{local_dim, local_dims, IsLocalDim}
-use Rattle.sh_sharding.specs.Sharding.{ShardingValue, IsSharding, counted_cells, local_extent, local_shape}
-use Rattle.sh_sharding.proofs.LocalTypeLaws.{are_local_dims}
-use Rattle.sh_sharding.proofs.PartLaws.{axes_of-each}
+use Rattle.sh_ir.proofs.TypeLaws.{agrees_itself, pairs_with_itself, same_bits, same_dim-itself}
 use Rattle.sh_iface.specs.Elements.{What, by_operation, by_predicate, by_choice, by_cast, Element, widths_by, fits_width, kind_at, op_at, tensor_of}
-
--- ---- types that are the same
-
-same_bits : (w : Width) → nat_eq (bits_of w) (bits_of w) ≡ true
-same_bits w = grind (arith, nat_tests)
-
-same_dim-itself : (d : Dim) → same_dim d d ≡ true
-same_dim-itself (Known n) = grind (arith, nat_tests)
-same_dim-itself Differs = refl
-
-agrees_itself : (d : Dim) → dims_agree d d ≡ true
-agrees_itself (Known n) = grind (arith, nat_tests)
-agrees_itself Differs = refl
-
-all_pairs : (R : Dim → Dim → Bool) → ((d : Dim) → R d d ≡ true) → (ds : List Dim) → pointwise R ds ds ≡ true
-all_pairs R each [] = refl
-all_pairs R each (d ∷ ds) = let rest = all_pairs R each ds in let first = each d in rw (first, rest) refl
-
--- ---- local types keep the limits
-
-dim_within : (g : List ℕ) (device : ℕ) (x : Dimension) (d : Dim) → device < cell_count g → IsLocalDim g x d → counted_dim d ≤ max 1 (local_extent g device x)
-dim_within g device x (Known n) l is = let same = is device l in omega (arith, same)
-dim_within g device x Differs l is = omega arith
-
-dims_within : (g : List ℕ) (device : ℕ) (ds : List Dimension) → device < cell_count g → AllByRecursion (λ d. IsLocalDim g d (local_dim g d)) ds
-    → cell_count (map counted_dim (map (local_dim g) ds)) ≤ counted_cells (map (local_extent g device) ds)
-dims_within g device [] l are = omega arith
-dims_within g device (d ∷ ds) l are =
-    mul-le (counted_dim (local_dim g d)) (cell_count (map counted_dim (map (local_dim g) ds))) (max 1 (local_extent g device d)) (counted_cells (map (local_extent g device) ds))
-    (dim_within g device d (local_dim g d) l are.0) (dims_within g device ds l are.1)
-
--- a local type has at most as many cells as the largest local tensor
-pub few_cells : (s : ShardingValue) → IsSharding s → nat_le (cell_count (map counted_dim (local_dims s))) max_cells ≡ true
-few_cells s ok =
-    let g = s.grid.extents in
-    let some = cell_count-some g ok.grid.positive in
-    let within = dims_within g 0 s.dimensions some (are_local_dims g s.dimensions ok.grid (axes_of-each (length g) s.dimensions ok.axes)) in
-    let small = ok.fits 0 some in
-    let le : cell_count (map counted_dim (local_dims s)) ≤ max_cells = omega (arith, within, small) in
-    grind (arith, nat_tests)
-
-pub few_dims : (s : ShardingValue) → IsSharding s → nat_le (length (local_dims s)) max_rank ≡ true
-few_dims s ok =
-    let counted : length (local_dims s) ≡ length s.dimensions = length-map s.dimensions (local_dim s.grid.extents) in
-    let short = ok.short in
-    let le : length (local_dims s) ≤ max_rank = omega (arith, counted, short) in
-    grind (arith, nat_tests)
 
 -- ---- the operands where the instruction stands
 
@@ -150,19 +90,19 @@ module _ (w : Width) (shape : List ℕ) (place : Place) (dims : List Dim) (scope
   unfolding keeps takes_operands counts_fit typing_of tensor_types operands_fit is_test_of
   keeps_types (by_operation op) at =
       let a = at.operands.0 in let b = at.operands.1.0 in
-      let bits = same_bits w in let same = all_pairs same_dim same_dim-itself dims in
+      let bits = same_bits w in let same = pairs_with_itself same_dim same_dim-itself dims in
       rw (a, b) (rw (bits, same) refl)
   keeps_types (by_predicate p v) at =
       let a = at.operands.0 in let b = at.operands.1.0 in
-      let bits = same_bits v in let same = all_pairs same_dim same_dim-itself dims in
+      let bits = same_bits v in let same = pairs_with_itself same_dim same_dim-itself dims in
       rw (a, b) (rw (bits, same) refl)
   keeps_types by_choice at =
       let a = at.operands.0 in let b = at.operands.1.0 in let c = at.operands.1.1.0 in
-      let bits = same_bits w in let same = all_pairs same_dim same_dim-itself dims in let agree = all_pairs dims_agree agrees_itself dims in
+      let bits = same_bits w in let same = pairs_with_itself same_dim same_dim-itself dims in let agree = pairs_with_itself dims_agree agrees_itself dims in
       rw (a, b, c) (rw (bits, same, agree) refl)
   keeps_types (by_cast op v) at =
       let a = at.operands.0 in
-      let bits = same_bits v in let same = all_pairs same_dim same_dim-itself dims in
+      let bits = same_bits v in let same = pairs_with_itself same_dim same_dim-itself dims in
       rw a (rw (bits, same) refl)
 
   keeps_result : (what : What) → IsPlace what w dims scope → keeps V4 scope (op_of what) ≡ true
@@ -170,7 +110,7 @@ module _ (w : Width) (shape : List ℕ) (place : Place) (dims : List Dim) (scope
   keeps_result (by_operation op) at = refl
   keeps_result (by_predicate p v) at = refl
   keeps_result by_choice at = refl
-  keeps_result (by_cast op v) at = let fits = at.fits in let agree = all_pairs dims_agree agrees_itself dims in rw (fits, agree) refl
+  keeps_result (by_cast op v) at = let fits = at.fits in let agree = pairs_with_itself dims_agree agrees_itself dims in rw (fits, agree) refl
 
   keeps_numbers : (what : What) → keeps V5 scope (op_of what) ≡ true
   unfolding keeps numbers_fit

@@ -9,15 +9,15 @@ use Rattle.sh_ir.specs.declared.operations.Op.{Op}
 use Rattle.sh_ir.specs.Rules.{KeepsOp, KeepsOps, faults_at, keeps, op_faults, ops_faults, refusal_at, region_faults}
 use Rattle.sh_ir.specs.Scope.{Scope, scope_after}
 
-left_empty : (a b : List Refusal) → a ++ b ≡ [] → a ≡ []
+pub left_empty : (a b : List Refusal) → a ++ b ≡ [] → a ≡ []
 left_empty [] b e = refl
 left_empty (r ∷ a) b e = absurd (cc)
 
-right_empty : (a b : List Refusal) → a ++ b ≡ [] → b ≡ []
+pub right_empty : (a b : List Refusal) → a ++ b ≡ [] → b ≡ []
 right_empty [] b e = e
 right_empty (r ∷ a) b e = absurd (cc)
 
-both_empty : (a b : List Refusal) → a ≡ [] → b ≡ [] → a ++ b ≡ []
+pub both_empty : (a b : List Refusal) → a ≡ [] → b ≡ [] → a ++ b ≡ []
 both_empty a b p q = ap (λ x. x ++ b) p ∙ q
 
 no_fault : (b : Bool) (r : Refusal) → (if b then [] else r ∷ []) ≡ [] → b ≡ true

@@ -15,6 +15,7 @@ pub mod ViewAdmissionLaws
 pub mod LeastRuleLaws
 pub mod AdmissionLaws
 pub mod LocalTypeLaws
+pub mod LocalLimits
 pub mod WindowCutLaws
 pub mod NormalLaws
 pub mod SpellingLaws

@@ -28,6 +28,7 @@ use Rattle.sh_ir.specs.RegionRules.{block_of, keeps_at_yield, keeps_in_region, o
 use Rattle.sh_ir.specs.Rules.{body_faults, faults_at, keeps, loop_count, op_faults, ops_faults, refusal_at, region_faults}
 use Rattle.sh_ir.specs.Scope.{Scope, Value, scope_after, scope_of}
 use Rattle.sh_ir.specs.Written.{written_by}
+use Rattle.sh_ir.proofs.KeptLaws.{both_empty, left_empty, right_empty}
 use Rattle.sh_sharding.specs.CutRules.{IsCutFault, KeepsCuts}
 use Rattle.sh_verify.specs.CutFaults.{AreCutFaults, HasReadyCuts, IsReadyCut}
 use Rattle.sh_verify.specs.Least.{StandsIn, by_place, fault_unless, least_of}
@@ -40,17 +41,6 @@ use Rattle.sh_verify.proofs.RuleLaws.{all_rules}
 use Rattle.sh_verify.proofs.OrderLaws.{least_found, none_found}
 
 -- ---- lists without a fault
-
-left_empty : (a b : List Refusal) → a ++ b ≡ [] → a ≡ []
-left_empty [] b e = refl
-left_empty (r ∷ a) b e = absurd (cc)
-
-right_empty : (a b : List Refusal) → a ++ b ≡ [] → b ≡ []
-right_empty [] b e = e
-right_empty (r ∷ a) b e = absurd (cc)
-
-both_empty : (a b : List Refusal) → a ≡ [] → b ≡ [] → a ++ b ≡ []
-both_empty a b p q = ap (λ x. x ++ b) p ∙ q
 
 -- each part of a list goes over to a part of another
 parts_empty : (a b c d : List Refusal) → (a ≡ [] → c ≡ []) → (b ≡ [] → d ≡ []) → a ++ b ≡ [] → c ++ d ≡ []
