@@ -154,7 +154,7 @@ module _ (w : Width) (s to : ShardingValue) (d a value name : ℕ) (is : IsMoveA
   abbrev grown : Dimension
   grown = with_axis (at s.dimensions d) a
 
-  slice_pieced : ArePieced gs (a ∷ []) (equal_starts gs grown) d (moved s to (M2 d a)).dimensions s.dimensions
+  pub slice_pieced : ArePieced gs (a ∷ []) (equal_starts gs grown) d (moved s to (M2 d a)).dimensions s.dimensions
   unfolding after
   slice_pieced =
       let state = state_then s to (M2 d a) is in
@@ -228,15 +228,15 @@ module _ (w : Width) (s to : ShardingValue) (d value name : ℕ) (is : IsMoveAt 
   abbrev taken : Dimension
   taken = at to.dimensions d
 
-  taken_of : IsOfState gt taken
+  pub taken_of : IsOfState gt taken
   unfolding after
   taken_of = dimension_then s s.dimensions d taken (state_then s to (M5 d) is) is.named
 
-  taken_there : at (moved s to (M5 d)).dimensions d ≡ taken
+  pub taken_there : at (moved s to (M5 d)).dimensions d ≡ taken
   unfolding after
   taken_there = get_or-set_same s.dimensions d taken (unsplit 0) is.named
 
-  take_pieced : ArePieced gt taken.axes (λ c q. offset_at gt taken q) d (moved s to (M5 d)).dimensions s.dimensions
+  pub take_pieced : ArePieced gt taken.axes (λ c q. offset_at gt taken q) d (moved s to (M5 d)).dimensions s.dimensions
   unfolding after
   take_pieced =
       let state = state_then s to (M5 d) is in
