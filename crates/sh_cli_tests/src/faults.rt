@@ -1,18 +1,18 @@
 //! Sources and sinks that are slow or fail.
 
+use crate::partition::partitioned;
 use crate::runs::{SUM, ample, assert_source, whole, words_of};
 use sh_cli::{Status, Tool, shard_main};
 use sh_io::{mem_sink, mem_source};
 use std::process::Abort;
 use std::test::Fail;
 
-const GRID: &str = "module {\n  shard.grid @g(shape = 32x32)\n}\n";
-
 #[test]
 fn a_source_may_be_slow(rt: HostRuntime) -> Result<(), Fail> {
     let alloc = rt.alloc();
-    let slow = mem_source(GRID.as_bytes().to_vec(alloc)?, 1, Vec::new(alloc));
-    assert_source(&rt, alloc, "", slow, (0, GRID, ""))
+    let output = partitioned(alloc, "4", "2", "2")?;
+    let slow = mem_source(SUM.as_bytes().to_vec(alloc)?, 1, Vec::new(alloc));
+    assert_source(&rt, alloc, "--partition", slow, (0, output.as_str(), ""))
 }
 
 #[test]
@@ -31,9 +31,9 @@ fn a_source_may_fail(rt: HostRuntime) -> Result<(), Fail> {
 #[test]
 fn a_failing_output_keeps_a_front(rt: HostRuntime) -> Result<(), Fail> {
     let alloc = rt.alloc();
-    let words = words_of(alloc, "")?;
+    let words = words_of(alloc, "--partition")?;
     for (call, written) in [(1, ""), (2, "module {\n ")] {
-        let mut src = whole(alloc, GRID)?;
+        let mut src = whole(alloc, SUM)?;
         let mut out = mem_sink(alloc, 4096, 10, vec![in alloc; call]?)?;
         let mut err = ample(alloc)?;
         let status = shard_main(alloc, Tool::Opt, &words, &mut src, &mut out, &mut err);

@@ -27,7 +27,13 @@ fn source(alloc: Global, extent: &str, devices: &str) -> Result<String, Fail> {
     Ok(text.as_str().replace(alloc, "<4xi32>", part.as_str())?)
 }
 
-fn partitioned(alloc: Global, extent: &str, devices: &str, local: &str) -> Result<String, Fail> {
+/// What that sum is rewritten to, with so many cells for each device.
+pub fn partitioned(
+    alloc: Global,
+    extent: &str,
+    devices: &str,
+    local: &str,
+) -> Result<String, Fail> {
     let text = PARTITIONED.replace(alloc, "E", extent)?;
     let text = text.as_str().replace(alloc, "L", local)?;
     Ok(text.as_str().replace(alloc, "D", devices)?)
