@@ -1,12 +1,12 @@
 -- The local part of an element operation makes the cut of the result of the cuts of the operands.
-use Rattle.std.proofs.Common.{ap₂, ◌≡◌, ℕ, zero, suc, ◌+◌, ◌-◌, ◌<◌, ◌≤◌, Bool, true, false, ◌&&◌, List, [], ◌∷◌, map, length, Option, Some, None, refl, ap, sym, ◌∙◌, arith, subst}
+use Rattle.std.proofs.Common.{ap₂, ◌≡◌, ℕ, ◌+◌, ◌-◌, ◌<◌, Bool, true, false, List, [], ◌∷◌, map, length, Option, Some, None, refl, ap, sym, ◌∙◌, arith, subst}
 use Rattle.std.proofs.lemmas.Bool.Decides.{nat_tests}
 use Rattle.std.proofs.lemmas.List.{length-map}
 use Rattle.std.proofs.lemmas.Option.{same_Some}
 use Rattle.std.proofs.lemmas.Slice.Eq.{bytes_eq-Decides}
 use Rattle.std.specs.Cmp.Lexicographic.{pointwise}
-use Rattle.std.specs.List.{AllByRecursion, list_all, range_with_len}
-use Rattle.std.specs.Prelude.{◌==◌, is_none, unwrap_or, nat_eq, nat_lt, if◌then◌else◌, option_and_then, IfSome}
+use Rattle.std.specs.List.{AllByRecursion, range_with_len}
+use Rattle.std.specs.Prelude.{◌==◌, is_none, unwrap_or, nat_eq, if◌then◌else◌, option_and_then, IfSome}
 use Rattle.sh_base.specs.Cells.{IsCellOf, bits_of}
 use Rattle.sh_base.specs.declared.numbers.Cell.{Cell}
 use Rattle.sh_base.specs.declared.numbers.Cell.TheVariants.{Undef, Val}
@@ -15,13 +15,11 @@ use Rattle.sh_base.specs.declared.numbers.Width.TheVariants.{I1, I8, I16, I32, I
 use Rattle.sh_base.specs.declared.operations.CastOp.{CastOp}
 use Rattle.sh_base.specs.declared.operations.CastOp.TheVariants.{Extsi, Extui, Trunci}
 use Rattle.sh_base.specs.Shape.{cell_count, IsIndexOf}
-use Rattle.sh_grid.specs.Grid.{GridValue}
 use Rattle.sh_int.specs.Elements.{element_of, comparison_of, cast_of, CanCast}
 use Rattle.sh_int.proofs.ElementLaws.{element_of-within, comparison_of-within, cast_of-within}
 use Rattle.sh_ir.specs.declared.operations.Op.{Op}
 use Rattle.sh_ir.specs.declared.types.Dim.{Dim}
 use Rattle.sh_ir.specs.declared.types.Dim.TheVariants.{Known, Differs}
-use Rattle.sh_ir.specs.declared.types.ValueType.{ValueType}
 use Rattle.sh_ir.specs.Classes.{class_of}
 use Rattle.sh_ir.specs.Results.{changes_bits}
 use Rattle.sh_ir.specs.Typing.{typing_of}
@@ -31,7 +29,6 @@ use Rattle.sh_pieces.specs.Runs.{RunsTo, HasRows}
 use Rattle.sh_pieces.proofs.Parts.{one_gives}
 use Rattle.sh_sem.specs.Given.{Seat, alone, given, giving, gives_cells, have_all_extents}
 use Rattle.sh_sem.specs.Pieces.{common_shape}
-use Rattle.sh_turns.specs.Program.{all_there}
 use Rattle.sh_sem.specs.Scalars.{Formula, formula_cell, chosen}
 use Rattle.sh_sem.specs.Steps.{is_collective_class, seat_of, steps_on}
 use Rattle.sh_sem.specs.Types.{have_extents}
@@ -43,7 +40,7 @@ use Rattle.sh_sharding.specs.Splits.{TensorSplit, IsOfSplit, tensor_splitting}
 use Rattle.sh_sharding.proofs.CutLaws.{at-cut_of, shape-cut_of, cut_cell-no_halos, cut_of-elements, no_halos-inside, whole_index-inside}
 use Rattle.sh_sharding.proofs.LocalTypeLaws.{are_local_dims}
 use Rattle.sh_sharding.proofs.PartLaws.{axes_of-each, placed}
-use Rattle.sh_tensor.specs.Tensor.{TensorValue, IsTensor, at, build}
+use Rattle.sh_tensor.specs.Tensor.{TensorValue, at, build}
 use Rattle.sh_tensor.proofs.TensorLaws.{IsTensor-build}
 use Rattle.sh_iface.specs.Elements.{What, by_operation, by_predicate, by_choice, by_cast, Element, formula_by, widths_by, fits_width, kind_at, op_at, tensor_of, known_dims}
 use Rattle.sh_iface.proofs.ElementGiven.{or_undefined, cell_by, IsBuilt, IsCellwise, given_is, is_given}

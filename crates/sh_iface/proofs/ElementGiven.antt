@@ -1,15 +1,14 @@
 -- What an element operation gives: the formula's cells on operands of one shape, where none is stuck.
-use Rattle.std.proofs.Common.{ap₂, ◌≡◌, ℕ, zero, suc, ◌+◌, ◌<◌, Bool, true, false, ◌&&◌, List, [], ◌∷◌, map, length, Option, Some, None, refl, ap, sym, ◌∙◌, arith, subst}
+use Rattle.std.proofs.Common.{◌≡◌, ℕ, zero, suc, ◌+◌, ◌<◌, Bool, true, false, List, map, Option, Some, None, refl, ap, sym, ◌∙◌, arith, subst}
 use Rattle.std.proofs.lemmas.Option.{same_Some}
 use Rattle.std.specs.List.{list_any, range_with_len}
-use Rattle.std.specs.Prelude.{◌||◌, is_none, unwrap_or, not, if◌then◌else◌, option_and_then}
+use Rattle.std.specs.Prelude.{◌||◌, is_none, unwrap_or, if◌then◌else◌, option_and_then}
 use Rattle.sh_base.specs.declared.numbers.Cell.{Cell}
 use Rattle.sh_base.specs.declared.numbers.Cell.TheVariants.{Undef}
 use Rattle.sh_base.specs.declared.numbers.Width.{Width}
 use Rattle.sh_base.specs.Shape.{cell_count, IsIndexOf, flat_of, unflat_of}
 use Rattle.sh_base.proofs.ShapeLaws.{flat_of-below, unflat_of-flat_of, unflat_of-within}
 use Rattle.sh_ir.specs.declared.operations.Op.{Op}
-use Rattle.sh_ir.specs.declared.types.Dim.{Dim}
 use Rattle.sh_ir.specs.Agreement.{dims_of}
 use Rattle.sh_ir.specs.Typing.{typing_of}
 use Rattle.sh_sem.specs.Given.{Giving, Seat, given, giving, shape_given, shape_by, cell_given, built_of, of_dims, gives_cells, have_all_extents}

@@ -1,16 +1,14 @@
 -- The laws of the interface of an element operation.
-use Rattle.std.proofs.Common.{ap₂, ◌≡◌, ℕ, zero, suc, ◌+◌, ◌-◌, ◌<◌, ◌≤◌, Bool, true, false, List, [], ◌∷◌, ◌++◌, map, length, get_or, Option, Some, None, refl, ap, sym, ◌∙◌, arith, subst}
+use Rattle.std.proofs.Common.{ap₂, ◌≡◌, ℕ, zero, suc, ◌+◌, ◌<◌, ◌≤◌, true, false, List, [], ◌∷◌, ◌++◌, map, length, get_or, Option, Some, refl, ap, sym, ◌∙◌, arith, subst}
 use Rattle.std.proofs.lemmas.Option.{same_Some}
 use Rattle.std.specs.List.{AllByRecursion}
 use Rattle.std.proofs.lemmas.List.{length-map}
 use Rattle.std.specs.Prelude.{not, slice_get}
 use Rattle.sh_base.specs.declared.numbers.Width.{Width}
-use Rattle.sh_base.specs.declared.rules.Rule.{Rule}
 use Rattle.sh_base.specs.Shape.{max_cells, max_rank}
 use Rattle.sh_grid.specs.Grid.{GridValue}
 use Rattle.sh_ir.specs.declared.operations.Op.{Op}
 use Rattle.sh_ir.specs.declared.types.Dim.{Dim}
-use Rattle.sh_ir.specs.declared.types.ValueType.{ValueType}
 use Rattle.sh_ir.specs.declared.types.ValueType.TheVariants.{Nothing}
 use Rattle.sh_ir.specs.Formed.{is_scalar}
 use Rattle.sh_ir.specs.Rules.{KeepsOps}
@@ -20,15 +18,15 @@ use Rattle.sh_sem.specs.Given.{alone, given}
 use Rattle.sh_sem.specs.Steps.{steps_on}
 use Rattle.sh_sharding.specs.declared.shardings.Dimension.{Dimension}
 use Rattle.sh_sharding.specs.LocalTypes.{local_dims}
-use Rattle.sh_sharding.specs.Sharding.{ShardingValue, HasNoHalos, IsSharding, counted_cells, unsplit, whole_of}
-use Rattle.sh_sharding.specs.Splits.{TensorSplit, tensor_splitting}
+use Rattle.sh_sharding.specs.Sharding.{HasNoHalos, IsSharding, counted_cells, unsplit}
+use Rattle.sh_sharding.specs.Splits.{tensor_splitting}
 use Rattle.sh_sharding.proofs.LocalLimits.{few_cells, few_dims}
 use Rattle.sh_sharding.proofs.PartLaws.{extents_few}
 use Rattle.sh_iface.specs.declared.options.Follow.{Follow}
 use Rattle.sh_iface.specs.declared.options.How.TheVariants.{Same}
-use Rattle.sh_iface.specs.Elements.{What, by_operation, by_predicate, by_choice, by_cast, Element, IsElement, widths_by, op_at, tensor_of, known_dims, element_value, element_nest, element_sharding, element_meaning}
-use Rattle.sh_iface.specs.Lawful.{IsFollowed, IsLawful, IsNest, IsNestValue, IsPartScope, KeepsForm, FollowsBelow, is_local, operand_types}
-use Rattle.sh_iface.specs.LoopNest.{HasNoWindows, Loop, LoopNest, NestDim, NestValue, shape_of, value_at}
+use Rattle.sh_iface.specs.Elements.{Element, IsElement, widths_by, op_at, tensor_of, known_dims, element_value, element_nest, element_sharding, element_meaning}
+use Rattle.sh_iface.specs.Lawful.{IsFollowed, IsLawful, IsNest, IsNestValue, IsPartScope, KeepsForm, FollowsBelow, operand_types}
+use Rattle.sh_iface.specs.LoopNest.{HasNoWindows, Loop, NestDim, NestValue, value_at}
 use Rattle.sh_iface.specs.Meaning.{instructions, local_type, operand_splits, result_split}
 use Rattle.sh_iface.specs.Splits.{OptionValue, implied_of, split_of}
 use Rattle.sh_iface.specs.Table.{always, each_follows, follows, loops_where, parallel}

@@ -1,11 +1,10 @@
 -- A verified element operation is one of the element operations of the laws, and its interface is that of the table.
-use Rattle.std.proofs.Common.{ap₂, ◌≡◌, ℕ, zero, suc, ◌+◌, ◌-◌, ◌<◌, ◌≤◌, Bool, true, false, ◌&&◌, List, [], ◌∷◌, ◌++◌, map, max, length, Option, Some, None, refl, ap, sym, ◌∙◌, arith, subst}
+use Rattle.std.proofs.Common.{ap₂, ◌≡◌, ℕ, ◌-◌, ◌≤◌, Bool, true, false, ◌&&◌, List, [], ◌∷◌, ◌++◌, map, max, length, Option, Some, None, refl, ap, sym, ◌∙◌, arith, subst}
 use Rattle.std.proofs.lemmas.Bool.Decides.{nat_tests}
 use Rattle.std.proofs.lemmas.List.{append-nil, length-map}
-use Rattle.std.specs.Cmp.Lexicographic.{pointwise}
 use Rattle.std.specs.List.{AllByRecursion, list_all, list_any}
 use Rattle.std.specs.Option.{option_map_or}
-use Rattle.std.specs.Prelude.{◌||◌, drop, nat_eq, nat_le, not, take}
+use Rattle.std.specs.Prelude.{◌||◌, drop, nat_eq, not, take}
 use Rattle.sh_base.specs.Cells.{bits_of}
 use Rattle.sh_base.specs.declared.numbers.Width.{Width}
 use Rattle.sh_base.specs.declared.numbers.Width.TheVariants.{I1, I8, I16, I32, I64}
@@ -28,7 +27,7 @@ use Rattle.sh_ir.specs.declared.types.Dim.{Dim}
 use Rattle.sh_ir.specs.declared.types.Dim.TheVariants.{Known, Differs}
 use Rattle.sh_ir.specs.declared.types.ValueType.{ValueType}
 use Rattle.sh_ir.specs.declared.types.ValueType.TheVariants.{Nothing, Scalar, Tensor, Sharding, Index}
-use Rattle.sh_ir.specs.Agreement.{cell_bits, differs, dims_agree, dims_of, has_differing, shapes_agree}
+use Rattle.sh_ir.specs.Agreement.{differs, has_differing, shapes_agree}
 use Rattle.sh_ir.specs.Formed.{is_scalar, is_spelled_type}
 use Rattle.sh_ir.specs.Limits.{counted_dim, has_few_cells, has_few_dims}
 use Rattle.sh_ir.specs.Operands.{is_test_of, operands_fit}
@@ -40,7 +39,7 @@ use Rattle.sh_ir.proofs.KeptLaws.{kept_here}
 use Rattle.sh_sem.specs.Given.{alone, cell_given, given, giving, shape_given}
 use Rattle.sh_sharding.specs.Sharding.{counted_cells}
 use Rattle.sh_tensor.specs.Tensor.{TensorValue}
-use Rattle.sh_iface.specs.Elements.{IsSomeElement, What, by_operation, by_predicate, by_choice, by_cast, Element, IsElement, IsElementOf, widths_by, fits_width, kind_at, op_at, tensor_of, known_dims, element_value, element_nest, element_meaning}
+use Rattle.sh_iface.specs.Elements.{IsSomeElement, What, by_operation, by_predicate, by_choice, by_cast, Element, IsElementOf, widths_by, kind_at, op_at, tensor_of, known_dims, element_value, element_nest, element_meaning}
 use Rattle.sh_iface.specs.LoopNest.{LoopNest}
 use Rattle.sh_iface.specs.Table.{always, loops_where, nest_of}
 use Rattle.sh_iface.specs.Verified.{IsOfVerified}

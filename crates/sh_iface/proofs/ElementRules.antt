@@ -1,5 +1,5 @@
 -- An element operation at local types keeps the rules of device form.
-use Rattle.std.proofs.Common.{◌≡◌, ℕ, suc, true, List, [], ◌∷◌, map, length, Some, None, refl}
+use Rattle.std.proofs.Common.{◌≡◌, ℕ, suc, true, false, List, [], ◌∷◌, map, length, Some, None, refl}
 use Rattle.std.specs.Prelude.{nat_le}
 use Rattle.sh_base.specs.declared.numbers.Width.{Width}
 use Rattle.sh_base.specs.declared.places.Place.{Place}
@@ -14,12 +14,12 @@ use Rattle.sh_ir.specs.Limits.{counted_dim, has_few_dims, has_few_cells, has_few
 use Rattle.sh_ir.specs.Loops.{generic_of}
 use Rattle.sh_ir.specs.Operands.{is_test_of, operands_fit}
 use Rattle.sh_ir.specs.Results.{is_cast, result_fits}
-use Rattle.sh_ir.specs.Rules.{calls_source, defines_new, has_region_in_order, is_in_form, keeps, names_known, region_faults, takes_operands, uses_defined, KeepsOp, KeepsOps}
+use Rattle.sh_ir.specs.Rules.{calls_source, defines_new, has_region_in_order, is_in_form, keeps, names_known, region_faults, takes_operands, uses_defined, KeepsOps}
 use Rattle.sh_ir.specs.Scope.{Scope, value_named}
 use Rattle.sh_ir.specs.Typing.{counts_fit, tensor_types, typing_of}
 use Rattle.sh_ir.proofs.KeptLaws.{keeps_next, keeps_op}
 use Rattle.sh_ir.proofs.TypeLaws.{agrees_itself, pairs_with_itself, same_bits, same_dim-itself}
-use Rattle.sh_iface.specs.Elements.{What, by_operation, by_predicate, by_choice, by_cast, Element, widths_by, fits_width, kind_at, op_at, tensor_of}
+use Rattle.sh_iface.specs.Elements.{What, by_operation, by_predicate, by_choice, by_cast, Element, widths_by, fits_width, op_at, tensor_of}
 
 -- ---- the operands where the instruction stands
 

@@ -1,9 +1,5 @@
 -- Loops, options and local parts by computation: a collapse, a sum along one dimension, convolutions, slices.
-use Rattle.std.proofs.Common.{◌≡◌, ℕ, ℤ, pos, Bool, true, false, List, [], ◌∷◌, map, Option, Some, None, refl}
-use Rattle.std.specs.List.{range_with_len}
-use Rattle.sh_base.specs.declared.numbers.Cell.{Cell}
-use Rattle.sh_base.specs.declared.numbers.Cell.TheVariants.{Val, Undef}
-use Rattle.sh_base.specs.declared.numbers.Width.{Width}
+use Rattle.std.proofs.Common.{◌≡◌, ℕ, ℤ, pos, true, false, List, [], ◌∷◌, map, Option, Some, None, refl}
 use Rattle.sh_base.specs.declared.numbers.Width.TheVariants.{I32}
 use Rattle.sh_base.specs.declared.operations.BinOp.{BinOp}
 use Rattle.sh_base.specs.declared.operations.BinOp.TheVariants.{Addi, Subi, Maxsi}
@@ -12,8 +8,6 @@ use Rattle.sh_base.specs.declared.operations.Kind.TheVariants.{Sum, Max}
 use Rattle.sh_base.specs.declared.places.Place.{Place}
 use Rattle.sh_grid.specs.Grid.{GridValue, group_size_of, on_axes}
 use Rattle.sh_ir.specs.declared.bodies.Body.{Body}
-use Rattle.sh_ir.specs.declared.bodies.BodyOp.{BodyOp}
-use Rattle.sh_ir.specs.declared.bodies.BodyKind.{BodyKind}
 use Rattle.sh_ir.specs.declared.bodies.BodyKind.TheVariants as body_kind
 use Rattle.sh_ir.specs.declared.linalg_ops.InsOuts.{InsOuts}
 use Rattle.sh_ir.specs.declared.operations.OpKind.{OpKind}
@@ -27,7 +21,7 @@ use Rattle.sh_sharding.specs.declared.shardings.Dimension.{Dimension}
 use Rattle.sh_sharding.specs.declared.shardings.Mark.{Mark}
 use Rattle.sh_sharding.specs.declared.shardings.Mark.TheVariants.{Balanced, Offsets}
 use Rattle.sh_sharding.specs.OffsetLists.{normal_mark}
-use Rattle.sh_sharding.specs.Sharding.{ShardingValue, offset_of, offsets_of, size_of_part, unsplit}
+use Rattle.sh_sharding.specs.Sharding.{offset_of, offsets_of, size_of_part, unsplit}
 use Rattle.sh_iface.specs.declared.options.How.TheVariants.{Same, Scale, Window}
 use Rattle.sh_iface.specs.declared.options.Split.{Split}
 use Rattle.sh_iface.specs.BodyKinds.{kind_of_body}

@@ -1,13 +1,13 @@
 -- Implied shardings: their whole shape, where they have no halos, and what they are where no loop is split.
-use Rattle.std.proofs.Common.{ap₂, ◌≡◌, ℕ, zero, suc, ◌+◌, ◌-◌, ◌<◌, ◌≤◌, Bool, true, false, List, [], ◌∷◌, map, length, Option, Some, None, refl, ap, sym, ◌∙◌, arith, subst}
+use Rattle.std.proofs.Common.{ap₂, ◌≡◌, ℕ, zero, suc, ◌-◌, ◌≤◌, Bool, true, false, List, [], ◌∷◌, map, length, Option, Some, None, refl, ap, sym, arith, subst}
 use Rattle.std.specs.List.{AllByRecursion}
-use Rattle.std.specs.Prelude.{All, slice_get, unwrap_or, if◌then◌else◌}
+use Rattle.std.specs.Prelude.{slice_get, unwrap_or, if◌then◌else◌}
 use Rattle.std.proofs.lemmas.List.{length-map}
 use Rattle.sh_base.specs.Shape.{max_cells, max_rank}
-use Rattle.sh_grid.specs.Grid.{GridValue, IsGrid, AreAxesOf, group_size_of}
+use Rattle.sh_grid.specs.Grid.{GridValue, IsGrid, AreAxesOf}
 use Rattle.sh_sharding.specs.declared.shardings.Dimension.{Dimension}
 use Rattle.sh_sharding.specs.declared.shardings.Mark.TheVariants.{Balanced}
-use Rattle.sh_sharding.specs.Made.{IsInOrder, IsPlain, IsState}
+use Rattle.sh_sharding.specs.Made.{IsPlain}
 use Rattle.sh_sharding.specs.Sharding.{HasNoHalos, IsSharding, axes_of, counted_cells, parts_of, unsplit, whole_of}
 use Rattle.sh_sharding.proofs.MadeLaws.{in_order}
 use Rattle.sh_sharding.proofs.MarkLaws.{balanced_divided}

@@ -1,28 +1,28 @@
 -- The views of a value's dimensions describe the sharding that an option implies of it.
-use Rattle.std.proofs.Common.{ap₂, ◌≡◌, ◌≢◌, ℕ, ℤ, zero, suc, ◌+◌, ◌*◌, ◌<◌, ◌≤◌, List, [], ◌∷◌, map, max, length, Option, Some, None, refl, ap, sym, ◌∙◌, arith, subst}
+use Rattle.std.proofs.Common.{ap₂, ◌≡◌, ℕ, ℤ, zero, suc, ◌+◌, ◌<◌, ◌≤◌, List, [], ◌∷◌, map, length, Option, Some, None, refl, ap, sym, ◌∙◌, arith, subst}
 use Rattle.std.proofs.lemmas.Int.{ints}
 use Rattle.std.proofs.lemmas.Option.{same_Some}
 use Rattle.std.proofs.lemmas.List.{length-set}
 use Rattle.std.proofs.lemmas.List.Elements.{All-map, All-weaker}
 use Rattle.std.specs.List.{AllByRecursion}
-use Rattle.std.specs.Prelude.{All, get_or, negsuc, option_map, pos, set, slice_get, take, unwrap_or}
-use Rattle.sh_base.specs.Shape.{max_cells, max_rank}
-use Rattle.sh_grid.specs.Grid.{GridValue, IsGrid, group_size_of}
+use Rattle.std.specs.Prelude.{All, get_or, negsuc, pos, set, slice_get, take, unwrap_or}
+use Rattle.sh_base.specs.Shape.{max_rank}
+use Rattle.sh_grid.specs.Grid.{GridValue, group_size_of}
 use Rattle.sh_sharding.specs.declared.shardings.Dimension.{Dimension}
 use Rattle.sh_sharding.specs.declared.views.DimensionView.{DimensionView}
 use Rattle.sh_sharding.specs.declared.views.MarkView.{MarkView}
 use Rattle.sh_sharding.specs.declared.views.MarkView.TheVariants as mark_view
 use Rattle.sh_sharding.specs.AxisLists.{IsBelow, IsNatural, natural}
-use Rattle.sh_sharding.specs.OffsetLists.{AreOffsets, normal_mark}
+use Rattle.sh_sharding.specs.OffsetLists.{normal_mark}
 use Rattle.sh_sharding.specs.Sharding.{IsSharding, unsplit}
-use Rattle.sh_sharding.specs.Views.{HasNaturals, IsAdmittedView, IsUnsplitView, axes_in, described, mark_in, offsets_in, scaled}
+use Rattle.sh_sharding.specs.Views.{HasNaturals, IsAdmittedView, IsUnsplitView, axes_in, described, mark_in, scaled}
 use Rattle.sh_sharding.proofs.MarkLaws.{offsets_fit}
 use Rattle.sh_iface.specs.declared.options.Follow.{Follow}
 use Rattle.sh_iface.specs.declared.options.How.{How}
 use Rattle.sh_iface.specs.declared.options.How.TheVariants.{Same, Scale, Window}
 use Rattle.sh_iface.specs.declared.options.Split.{Split}
 use Rattle.sh_iface.specs.ImpliedViews.{AreImpliedViews, IsImpliedView}
-use Rattle.sh_iface.specs.LoopNest.{IsPlainFollow, IsPlainHow, Loop, LoopNest, NestDim, NestValue, dim_at, loop_extents, shape_of}
+use Rattle.sh_iface.specs.LoopNest.{IsPlainHow, Loop, LoopNest, NestDim, NestValue, dim_at, loop_extents, shape_of}
 use Rattle.sh_iface.specs.ScaledViews.{IsScaledView, ListsOffsets}
 use Rattle.sh_iface.specs.Splits.{OptionValue, divided, divided_as, factor_of, followed, implied_dimension, implied_of, scaled_dimension, split_at}
 use Rattle.sh_iface.specs.Valid.{AreSplits}

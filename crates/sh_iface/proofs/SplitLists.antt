@@ -1,8 +1,7 @@
 -- The splits of all loops are those of each.
-use Rattle.std.proofs.Common.{◌≡◌, ℕ, zero, suc, ◌+◌, ◌<◌, ◌≤◌, List, [], ◌∷◌, length, Option, Some, None, refl, ap, sym, ◌∙◌, arith, subst}
+use Rattle.std.proofs.Common.{◌≡◌, ℕ, zero, suc, ◌<◌, ◌≤◌, List, [], ◌∷◌, length, None, refl, ap, sym, ◌∙◌, arith}
 use Rattle.std.specs.List.{AllByRecursion}
 use Rattle.std.specs.Prelude.{get_or}
-use Rattle.sh_iface.specs.declared.options.Split.{Split}
 use Rattle.sh_iface.specs.LoopNest.{HasNoWindows, IsPlainNest, Loop, LoopNest, NestValue, value_at}
 use Rattle.sh_iface.specs.Splits.{OptionValue}
 use Rattle.sh_iface.specs.Valid.{AreSplits, MayBeSplit}

@@ -1,5 +1,5 @@
 -- The split of a loop is in order exactly where its description alone is that of an admitted sharding.
-use Rattle.std.proofs.Common.{◌≡◌, ℕ, ℤ, ◌+◌, ◌*◌, ◌<◌, ◌≤◌, List, [], ◌∷◌, ◌++◌, map, max, length, refl, ap, sym, ◌∙◌, arith, subst}
+use Rattle.std.proofs.Common.{ℕ, ℤ, ◌<◌, ◌≤◌, List, [], ◌∷◌, map, length, ap, sym, arith, subst}
 use Rattle.std.proofs.lemmas.List.{append-nil}
 use Rattle.sh_base.specs.Shape.{max_cells}
 use Rattle.sh_grid.specs.Grid.{GridValue, IsGrid, AreAxesOf, group_size_of}
@@ -11,11 +11,11 @@ use Rattle.sh_sharding.specs.declared.views.MarkView.{MarkView}
 use Rattle.sh_sharding.specs.declared.views.MarkView.TheVariants as mark_view
 use Rattle.sh_sharding.specs.Made.{IsPlain}
 use Rattle.sh_sharding.specs.OffsetLists.{AreOffsets}
-use Rattle.sh_sharding.specs.Sharding.{IsDimension, IsSharding, parts_of, unsplit}
+use Rattle.sh_sharding.specs.Sharding.{IsDimension, parts_of, unsplit}
 use Rattle.sh_sharding.specs.Views.{HasOrder, IsAdmittedView, IsOrdered, axes_in, described, scaled}
 use Rattle.sh_sharding.proofs.HaloSizeLaws.{some_parts}
 use Rattle.sh_sharding.proofs.MadeLaws.{in_order}
-use Rattle.sh_sharding.proofs.ViewAdmissionLaws.{described_axes, is_dimension, is_ordered, whole_fits}
+use Rattle.sh_sharding.proofs.ViewAdmissionLaws.{is_dimension, is_ordered, whole_fits}
 use Rattle.sh_sharding.proofs.ViewLaws.{order_naturals, scaled-one}
 use Rattle.sh_iface.specs.declared.options.Split.{Split}
 use Rattle.sh_iface.specs.ScaledViews.{IsScaledView, ListsOffsets}

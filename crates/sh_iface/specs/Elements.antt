@@ -1,6 +1,6 @@
 -- Element operations: cell by cell, on any number of operands of one shape, all of which are split
 -- alike.
-use Rattle.std.specs.Prelude.{◌≡◌, ◌≤◌, ℕ, ◌&&◌, Bool, true, List, [], ◌∷◌, length, map, nat_eq, Option, Some, None, unwrap_or}
+use Rattle.std.specs.Prelude.{◌≡◌, ◌≤◌, ℕ, Bool, true, List, [], ◌∷◌, length, map, nat_eq, Some, None}
 use Rattle.std.specs.List.{range_with_len}
 use Rattle.sh_base.specs.Cells.{bits_of}
 use Rattle.sh_base.specs.declared.numbers.Width.{Width}

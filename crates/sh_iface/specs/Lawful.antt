@@ -1,7 +1,6 @@
 -- The laws of an interface.
-use Rattle.std.specs.Prelude.{◌≡◌, ℕ, ◌+◌, ◌-◌, ◌<◌, ◌≤◌, pos, Bool, true, not, List, [], ◌∷◌, ◌++◌, map, length, slice_get, get_or, Option, Some, None, IsSome, All}
+use Rattle.std.specs.Prelude.{◌≡◌, ℕ, ◌-◌, ◌<◌, ◌≤◌, pos, Bool, true, not, List, ◌++◌, map, length, slice_get, get_or, Option, Some, None, IsSome}
 use Rattle.std.specs.List.{AllByRecursion}
-use Rattle.sh_base.specs.declared.numbers.Width.{Width}
 use Rattle.sh_base.specs.declared.rules.Rule.{Rule}
 use Rattle.sh_base.specs.Shape.{max_cells, max_rank}
 use Rattle.sh_grid.specs.Grid.{GridValue, IsGrid}
@@ -20,7 +19,7 @@ use Rattle.sh_sharding.specs.Splits.{tensor_splitting}
 use Rattle.sh_iface.specs.declared.options.Follow.{Follow}
 use Rattle.sh_iface.specs.declared.options.How.TheVariants.{Same}
 use Rattle.sh_iface.specs.LoopNest.{Loop, LoopNest, NestDim, NestValue, shape_of, value_at}
-use Rattle.sh_iface.specs.Meaning.{Meaning, operand_splits, result_split, local_type, instructions, operand_count}
+use Rattle.sh_iface.specs.Meaning.{Meaning, operand_splits, result_split, local_type, instructions}
 use Rattle.sh_iface.specs.Splits.{OptionValue, split_of}
 use Rattle.sh_iface.specs.Valid.{IsValid, unsplit_loops}
 

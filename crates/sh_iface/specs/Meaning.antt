@@ -1,6 +1,6 @@
 -- What an interface says of an operation: its loops, what it gives of whole operands, and its local
 -- part, with the instructions that combine the parts of a reduction.
-use Rattle.std.specs.Prelude.{◌≡◌, ℕ, suc, ◌+◌, ◌-◌, pos, List, [], ◌∷◌, ◌++◌, map, length, get_or, Option, Some, None}
+use Rattle.std.specs.Prelude.{ℕ, suc, ◌+◌, ◌-◌, pos, List, [], ◌∷◌, ◌++◌, map, length, Option, Some, None}
 use Rattle.sh_base.specs.declared.numbers.Width.{Width}
 use Rattle.sh_base.specs.declared.operations.Kind.{Kind}
 use Rattle.sh_base.specs.declared.places.Place.{Place}
@@ -9,13 +9,13 @@ use Rattle.sh_int.specs.Reduction.{operation_of}
 use Rattle.sh_ir.specs.declared.operations.Op.{Op}
 use Rattle.sh_ir.specs.declared.operations.OpKind.TheVariants.{Binary, AllReduce}
 use Rattle.sh_ir.specs.declared.types.ValueType.{ValueType}
-use Rattle.sh_ir.specs.declared.types.ValueType.TheVariants.{Tensor, Scalar}
+use Rattle.sh_ir.specs.declared.types.ValueType.TheVariants.{Tensor}
 use Rattle.sh_sharding.specs.LocalTypes.{local_dims}
 use Rattle.sh_sharding.specs.Splits.{TensorSplit}
 use Rattle.sh_tensor.specs.Tensor.{TensorValue}
 use Rattle.sh_iface.specs.declared.options.Split.{Split}
 use Rattle.sh_iface.specs.declared.parts.LocalPart.{LocalPart}
-use Rattle.sh_iface.specs.LoopNest.{Loop, LoopNest, loop_extents}
+use Rattle.sh_iface.specs.LoopNest.{Loop, LoopNest}
 use Rattle.sh_iface.specs.Splits.{OptionValue, split_of, scalar_split}
 
 pub record Meaning : Type 0 where

@@ -1,12 +1,10 @@
 -- The loops of each kind of operation, and what follows them.
-use Rattle.std.specs.Prelude.{ℕ, suc, ◌+◌, ◌-◌, ◌*◌, ◌&&◌, ◌||◌, not, Bool, true, false, List, [], ◌∷◌, ◌++◌, map, filter, drop, length, get_or, slice_get, nat_eq, Option, Some, None, is_none, is_some, option_map, unwrap_or, if◌then◌else◌}
+use Rattle.std.specs.Prelude.{ℕ, suc, ◌&&◌, ◌||◌, not, Bool, true, List, [], ◌∷◌, ◌++◌, map, drop, get_or, nat_eq, Option, Some, None, is_some, option_map, if◌then◌else◌}
 use Rattle.std.specs.List.{list_any, range_with_len}
 use Rattle.std.specs.Cmp.Lexicographic.{pointwise}
-use Rattle.sh_base.specs.declared.numbers.Width.{Width}
 use Rattle.sh_base.specs.declared.operations.Kind.{Kind}
 use Rattle.sh_base.specs.declared.operations.Kind.TheVariants.{Sum}
 use Rattle.sh_base.specs.Shape.{cell_count}
-use Rattle.sh_ir.specs.declared.linalg_ops.InsOuts.{InsOuts}
 use Rattle.sh_ir.specs.declared.operations.OpKind.{OpKind}
 use Rattle.sh_ir.specs.declared.operations.OpKind.TheVariants.{Constant, Binary, Compare, Select, Cast, Empty, ExtractSlice, InsertSlice, CollapseShape, ExpandShape, Fill, Matmul, BatchMatmul, Matvec, Vecmat, Dot, Conv1d, Conv2d, Transpose, Broadcast, Reduce, Generic, Sharding, Shard, AllGather, AllSlice, AllReduce, ReduceScatter, AllToAll, Shift, UpdateHalo, Take, Pad, Join, Call, Return}
 use Rattle.sh_ir.specs.declared.tensor_ops.Slice.{Slice}
@@ -18,7 +16,6 @@ use Rattle.sh_ir.specs.Shapes.{shape_of}
 use Rattle.sh_ir.specs.Typing.{operand_types, typing_of}
 use Rattle.sh_sem.specs.Nest.{extents_by, maps_of}
 use Rattle.sh_sem.specs.Scalars.{width_of}
-use Rattle.sh_iface.specs.declared.options.Follow.{Follow}
 use Rattle.sh_iface.specs.declared.options.How.{How}
 use Rattle.sh_iface.specs.declared.options.How.TheVariants.{Same, Scale, Window}
 use Rattle.sh_iface.specs.BodyKinds.{kind_of_body}

@@ -1,5 +1,5 @@
 -- An operation of a verified function in source form: what an interface may ask of it.
-use Rattle.std.specs.Prelude.{◌≡◌, true, List, ◌++◌, None, option_to_list}
+use Rattle.std.specs.Prelude.{◌≡◌, true, ◌++◌, None, option_to_list}
 use Rattle.std.specs.List.{list_all}
 use Rattle.std.specs.Option.{option_map_or}
 use Rattle.sh_base.specs.declared.rules.Rule.{Rule}

@@ -1,4 +1,4 @@
-use Rattle.std.proofs.Common.{arith, ◌≡◌, length, refl, subst, ap, Some, None, false}
+use Rattle.std.proofs.Common.{arith, ◌≡◌, length, refl, subst, ap, None, false}
 use Rattle.sh_sharding.proofs.Cases.{not_both}
 use Rattle.sh_iface.specs.LoopNest.{loop_at}
 use Rattle.sh_iface.specs.Valid.{MayBeSplit}
