@@ -1,8 +1,8 @@
 -- What a collective gives to a device, by the values of its group, where each device has a value of
 -- the operand's name.
-use Rattle.std.proofs.Common.{◌≡◌, ◌∙◌, ℕ, zero, suc, ◌+◌, ◌<◌, Bool, true, List, [], ◌∷◌, map, length, Option, Some, None, All, refl, ap, sym, subst, arith}
-use Rattle.std.specs.Prelude.{option_and_then, option_map, slice_get, if◌then◌else◌}
-use Rattle.std.specs.List.{list_all, range_with_len}
+use Rattle.std.proofs.Common.{◌≡◌, ◌∙◌, ℕ, zero, suc, ◌+◌, ◌<◌, true, List, [], ◌∷◌, map, Option, Some, All, refl, ap, arith}
+use Rattle.std.specs.Prelude.{option_and_then, option_map, slice_get}
+use Rattle.std.specs.List.{range_with_len}
 use Rattle.std.proofs.lemmas.List.Elements.{All-head, All-tail}
 use Rattle.std.proofs.lemmas.List.FromFn.{length-map-range_with_len}
 use Rattle.sh_base.specs.Shape.{cell_count}

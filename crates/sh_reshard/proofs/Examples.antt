@@ -1,7 +1,7 @@
 -- The instructions of small reshards, by computation.
 use Rattle.std.proofs.Common.{◌≡◌, ℕ, List, [], ◌∷◌, map, Some, pos, refl}
 use Rattle.sh_base.specs.declared.numbers.Width.TheVariants.{I32}
-use Rattle.sh_grid.specs.Grid.{GridValue, group_size_of, on_axes}
+use Rattle.sh_grid.specs.Grid.{group_size_of, on_axes}
 use Rattle.sh_ir.specs.declared.operations.Op.{Op}
 use Rattle.sh_ir.specs.declared.operations.OpKind.{OpKind}
 use Rattle.sh_ir.specs.declared.operations.OpKind.TheVariants.{AllGather, AllSlice, AllToAll, Take}

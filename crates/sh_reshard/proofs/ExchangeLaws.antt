@@ -1,7 +1,7 @@
 -- The move that takes an axis from one dimension to another: each device's cut afterwards is its
 -- slice of the parts of its group, one after the other.
-use Rattle.std.proofs.Common.{ap₂, ◌≡◌, ◌≢◌, ◌∙◌, ℕ, zero, suc, ◌+◌, ◌-◌, ◌*◌, ◌/◌, ◌<◌, ◌≤◌, Bool, true, List, [], ◌∷◌, map, length, get_or, set, Option, Some, None, refl, ap, sym, subst, arith}
-use Rattle.std.specs.Prelude.{nat_eq, option_and_then, option_map, if◌then◌else◌}
+use Rattle.std.proofs.Common.{ap₂, ◌≡◌, ◌≢◌, ◌∙◌, ℕ, zero, suc, ◌+◌, ◌-◌, ◌*◌, ◌/◌, ◌<◌, ◌≤◌, true, List, [], ◌∷◌, map, length, get_or, set, Some, refl, ap, sym, subst, arith}
+use Rattle.std.specs.Prelude.{nat_eq, option_and_then, option_map}
 use Rattle.std.specs.Cmp.Lexicographic.{pointwise}
 use Rattle.std.specs.List.{list_all, range_with_len}
 use Rattle.std.proofs.lemmas.Bool.{and_from}
@@ -10,7 +10,7 @@ use Rattle.std.proofs.lemmas.List.FromFn.{length-map-range_with_len}
 use Rattle.std.proofs.lemmas.Slice.Eq.{bytes_eq-Decides}
 use Rattle.sh_base.specs.declared.numbers.Width.{Width}
 use Rattle.sh_base.specs.Shape.{cell_count, IsIndexOf}
-use Rattle.sh_grid.specs.Grid.{AreAxesOf, group_size_of, member_of, place_in}
+use Rattle.sh_grid.specs.Grid.{group_size_of, member_of, place_in}
 use Rattle.sh_grid.proofs.GroupLaws.{AgreeOutside-refl, member_of-below, member_of-place_in, place_in-below}
 use Rattle.sh_grid.proofs.GroupSteps.{group_size_of-some}
 use Rattle.sh_ir.specs.Typing.{typing_of}
@@ -19,22 +19,21 @@ use Rattle.sh_pieces.specs.Instructions.{State, gives}
 use Rattle.sh_pieces.specs.Promises.{HasCuts}
 use Rattle.sh_sem.specs.Collected.{collected, collecting, exchanged_shape, exchanges, piece_of}
 use Rattle.sh_sem.specs.Given.{have_all_extents}
-use Rattle.sh_sem.specs.Pieces.{common_shape, equal_piece, joined_shape}
-use Rattle.sh_sem.specs.Steps.{axes_of, is_collective_class, steps_on}
+use Rattle.sh_sem.specs.Pieces.{common_shape, equal_piece}
+use Rattle.sh_sem.specs.Steps.{steps_on}
 use Rattle.sh_sem.specs.Types.{have_extents}
 use Rattle.sh_tensor.specs.Tensor.{TensorValue, at, build, joined_at, slice_of}
 use Rattle.sh_sharding.specs.declared.shardings.Dimension.{Dimension}
 use Rattle.sh_sharding.specs.Cut.{cut_of}
 use Rattle.sh_sharding.specs.LocalTypes.{local_dims}
-use Rattle.sh_sharding.specs.Made.{IsState}
 use Rattle.sh_sharding.specs.Sharding.{ShardingValue, local_extent, local_shape, parts_of}
 use Rattle.sh_sharding.specs.Splits.{IsOfSplit, tensor_splitting}
 use Rattle.sh_sharding.proofs.CutLaws.{shape-cut_of}
 use Rattle.sh_plan.specs.declared.moves.Move.TheVariants.{M3}
-use Rattle.sh_plan.specs.Instructions.{IsMoveAt, Reshards, instruction_of, kind_of, local_type, split_of}
-use Rattle.sh_plan.specs.Moves.{after, at as dimension_at, last_axis, moved, with_axis, without_last}
+use Rattle.sh_plan.specs.Instructions.{IsMoveAt, Reshards, instruction_of, kind_of, split_of}
+use Rattle.sh_plan.specs.Moves.{at as dimension_at, last_axis, moved, with_axis, without_last}
 use Rattle.sh_plan.proofs.FinerMoves.{equal_starts}
-use Rattle.sh_plan.proofs.FinerParts.{ArePieced, piece_of_cut, piece_within, pieced_within, pieces_begin, pieces_end, pieces_rise, shape_there}
+use Rattle.sh_plan.proofs.FinerParts.{piece_of_cut, piece_within, pieced_within, pieces_end}
 use Rattle.sh_plan.proofs.GatherPieces.{IsExchanged, exchanged}
 use Rattle.sh_plan.proofs.LocalSteps.{has_local_dims}
 use Rattle.sh_plan.proofs.SplitLaws.{equal_there, reshards_by, state_then}

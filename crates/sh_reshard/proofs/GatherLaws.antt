@@ -1,6 +1,5 @@
 -- Moves that gather: the cuts of a group, one after the other, are the coarser cut.
-use Rattle.std.proofs.Common.{◌≡◌, ◌≢◌, ◌∙◌, ℕ, ◌+◌, ◌-◌, ◌*◌, ◌<◌, ◌≤◌, Bool, true, List, [], ◌∷◌, map, length, get_or, set, Some, refl, ap, sym, subst, arith}
-use Rattle.std.specs.Prelude.{pos}
+use Rattle.std.proofs.Common.{◌≡◌, ◌∙◌, ℕ, ◌+◌, ◌<◌, ◌≤◌, true, List, [], ◌∷◌, map, length, get_or, Some, refl, ap, sym, subst, arith}
 use Rattle.std.specs.List.{range_with_len}
 use Rattle.std.proofs.lemmas.Bool.{and_from}
 use Rattle.std.proofs.lemmas.List.{length-map}
@@ -20,12 +19,11 @@ use Rattle.sh_sem.specs.Collected.{collected, collecting, gathers}
 use Rattle.sh_sem.specs.Given.{have_all_extents}
 use Rattle.sh_sem.specs.Steps.{axes_of, is_collective_class, steps_on}
 use Rattle.sh_sem.specs.Types.{have_extents}
-use Rattle.sh_tensor.specs.Tensor.{TensorValue, at, build, joined_at}
+use Rattle.sh_tensor.specs.Tensor.{TensorValue, at, build}
 use Rattle.sh_tensor.proofs.TensorLaws.{build-ext}
 use Rattle.sh_sharding.specs.Cut.{cut_cell, cut_of}
 use Rattle.sh_sharding.specs.LocalTypes.{local_dims}
-use Rattle.sh_sharding.specs.Made.{IsState}
-use Rattle.sh_sharding.specs.Sharding.{IsSharding, ShardingValue, local_extent, local_shape, offset_at}
+use Rattle.sh_sharding.specs.Sharding.{ShardingValue, local_extent, local_shape, offset_at}
 use Rattle.sh_sharding.specs.Splits.{IsOfSplit, tensor_splitting}
 use Rattle.sh_sharding.proofs.CutLaws.{at-cut_of, shape-cut_of}
 use Rattle.sh_plan.specs.declared.moves.Move.{Move}
@@ -34,7 +32,7 @@ use Rattle.sh_plan.specs.Instructions.{IsMoveAt, Reshards, instruction_of, kind_
 use Rattle.sh_plan.specs.Moves.{after, at as dimension_at, last_axis, moved}
 use Rattle.sh_plan.proofs.FinerMoves.{equal_starts}
 use Rattle.sh_plan.proofs.FinerParts.{ArePieced, piece_of_cut, pieced_within, pieces_begin, pieces_end, pieces_rise}
-use Rattle.sh_plan.proofs.GatherPieces.{IsGathered, IsGatheredWhole, gathered_last, gathered_whole}
+use Rattle.sh_plan.proofs.GatherPieces.{gathered_last, gathered_whole}
 use Rattle.sh_plan.proofs.LocalSteps.{has_local_dims}
 use Rattle.sh_plan.proofs.SplitLaws.{naturals, reshards_by, state_then}
 use Rattle.sh_reshard.proofs.CollectedSteps.{collected_is, group_gives}

@@ -4,3 +4,8 @@ mod GatherLaws
 mod ExchangeLaws
 pub mod Reshards
 mod Examples
+mod LoweringSteps
+mod NamedGroups
+mod LocalExtents
+pub mod SoundMoves
+pub mod SoundPlans

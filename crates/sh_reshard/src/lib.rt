@@ -2,6 +2,10 @@
 //! one sharding become those by another.
 #![tactic(auto)]
 
+mod kinds;
 mod laws;
+mod lowering;
+mod numbers;
 
-pub use laws::reshard_laws;
+pub use laws::{reshard_laws, soundness_laws};
+pub use lowering::lower;

@@ -1,0 +1,8 @@
+use Rattle.std.proofs.Common.{◌≡◌, map, pos}
+use Rattle.std.specs.List.{range_with_len}
+use Rattle.sh_sharding.specs.Sharding.{dimension_of, part_size}
+use Rattle.sh_reshard.proofs.numbers.part_sizes.Given as goal
+
+-- the sizes so far
+abbrev pub invariant-loop-part : goal.invariant-loop-part
+invariant-loop-part l = l.sizes ≡ map pos (map (part_size l.s.grid.extents (dimension_of l.s l.fn.dim)) (range_with_len 0 l.part))
