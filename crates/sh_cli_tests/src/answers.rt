@@ -33,11 +33,19 @@ shard.grid @g(shape = 1025) | L3 at 1:1 | 12
 func.func @f(%a : tensor<1048577xi32>) { return } | L4 at 1:1 | 12
 func.func @f(%a : tensor<2xi32>) -> tensor<2xi32> { return %b : tensor<2xi32> } | V1 at 1:53 | 4
 func.func @f(%a : tensor<2xi32>) { %b = arith.addi %a, %a : tensor<3xi32> return } | V3 at 1:36 | 4
-shard.grid @g(shape = 2) func.func @f(%a : tensor<2xi32>) { %s = shard.sharding @h split_axes = [[0]] : !shard.sharding %b = shard.shard %a to %s : tensor<2xi32> return } | V6 at 1:61 | 4
-shard.grid @g(shape = 2) func.func @f(%a : tensor<2xi32>) { %s = shard.sharding @g split_axes = [[1]] : !shard.sharding %b = shard.shard %a to %s : tensor<2xi32> return } | A1 at 1:121 | 5
-shard.grid @g(shape = 2) func.func @f(%a : tensor<2x2xi32>) { %s = shard.sharding @g split_axes = [[0], [0]] : !shard.sharding %b = shard.shard %a to %s : tensor<2x2xi32> return } | A2 at 1:128 | 5
+shard.grid @g(shape = 2) func.func @f(%a : tensor<2xi32>) { \
+%s = shard.sharding @h split_axes = [[0]] : !shard.sharding \
+%b = shard.shard %a to %s : tensor<2xi32> return } | V6 at 1:61 | 4
+shard.grid @g(shape = 2) func.func @f(%a : tensor<2xi32>) { \
+%s = shard.sharding @g split_axes = [[1]] : !shard.sharding \
+%b = shard.shard %a to %s : tensor<2xi32> return } | A1 at 1:121 | 5
+shard.grid @g(shape = 2) func.func @f(%a : tensor<2x2xi32>) { \
+%s = shard.sharding @g split_axes = [[0], [0]] : !shard.sharding \
+%b = shard.shard %a to %s : tensor<2x2xi32> return } | A2 at 1:128 | 5
 func.func @f(%a : tensor<1048577xi32>) -> i32 { return %b : i32 } | L4 at 1:1 | 12
-shard.grid @g(shape = 2) func.func @f(%a : tensor<2xi32>) { %s = shard.sharding @g split_axes = [[1]] : !shard.sharding %b = shard.shard %a to %s : tensor<2xi32> %c = arith.addi %a, %a : tensor<3xi32> return } | V3 at 1:163 | 4
+shard.grid @g(shape = 2) func.func @f(%a : tensor<2xi32>) { \
+%s = shard.sharding @g split_axes = [[1]] : !shard.sharding \
+%b = shard.shard %a to %s : tensor<2xi32> %c = arith.addi %a, %a : tensor<3xi32> return } | V3 at 1:163 | 4
 ";
 
 fn assert_refused(rt: &impl Abort, alloc: Global, row: &str) -> Result<(), Fail> {
