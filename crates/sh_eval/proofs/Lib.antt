@@ -6,3 +6,9 @@ pub mod LayoutLaws
 pub mod KindLaws
 pub mod ValueLaws
 pub mod EvaluationLaws
+pub mod TypeLaws
+pub mod MemberLaws
+pub mod RuleFacts
+pub mod CapturedLaws
+pub mod OperandLaws
+pub mod SourceOps

@@ -4,3 +4,5 @@ pub mod Rules
 pub mod Shapes
 pub mod Values
 pub mod Evaluations
+pub mod Sources
+pub mod VerifiedOps
