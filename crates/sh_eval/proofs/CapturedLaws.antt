@@ -55,7 +55,7 @@ all_joined p (x ∷ xs) ys h k =
     let rest = all_joined p xs ys (both_right (p x) (list_all p xs) h) k in
     rw (here, rest) refl
 
-all_filtered : {X : Type 0} (p q : X → Bool) (xs : List X) → list_all p xs ≡ true → list_all p (filter q xs) ≡ true
+pub all_filtered : {X : Type 0} (p q : X → Bool) (xs : List X) → list_all p xs ≡ true → list_all p (filter q xs) ≡ true
 all_filtered p q [] h = refl
 all_filtered p q (x ∷ xs) h =
     let here = both_left (p x) (list_all p xs) h in

@@ -12,3 +12,6 @@ pub mod RuleFacts
 pub mod CapturedLaws
 pub mod OperandLaws
 pub mod SourceOps
+pub mod KindFits
+pub mod NestFits
+pub mod NamedFits
