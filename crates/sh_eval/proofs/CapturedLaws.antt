@@ -48,7 +48,7 @@ no_fault false r e = absurd (cc)
 
 -- ---- lists of names
 
-all_joined : {X : Type 0} (p : X → Bool) (xs ys : List X) → list_all p xs ≡ true → list_all p ys ≡ true → list_all p (xs ++ ys) ≡ true
+pub all_joined : {X : Type 0} (p : X → Bool) (xs ys : List X) → list_all p xs ≡ true → list_all p ys ≡ true → list_all p (xs ++ ys) ≡ true
 all_joined p [] ys h k = k
 all_joined p (x ∷ xs) ys h k =
     let here = both_left (p x) (list_all p xs) h in
@@ -193,7 +193,7 @@ type_named scope name = option_map_or (λ v. v.value_type) (value_named scope na
 abbrev pub captured_types : List Value → OpKind → List ValueType
 captured_types scope kind = map (type_named scope) (captured_in (written_by kind))
 
-scalar_value : (t : ValueType) → is_scalar t ≡ true → has_value t ≡ true
+pub scalar_value : (t : ValueType) → is_scalar t ≡ true → has_value t ≡ true
 scalar_value (value_type.Scalar w) h = refl
 scalar_value (value_type.Tensor t) h = absurd (cc)
 scalar_value value_type.Nothing h = absurd (cc)

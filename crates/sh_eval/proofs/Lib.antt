@@ -15,3 +15,5 @@ pub mod SourceOps
 pub mod KindFits
 pub mod NestFits
 pub mod NamedFits
+pub mod RegionFits
+pub mod RegionNests

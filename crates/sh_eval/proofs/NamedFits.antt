@@ -288,13 +288,17 @@ transpose_places n m zs ranks long axes =
     single_follows n (places_in m (as_naturals zs))
     (places_below n 0 m (as_naturals zs) counted (naturals_below n zs (both_left (list_all (is_below n) zs) (are_distinct (as_naturals zs)) axes)) (both_right (list_all (is_below n) zs) (are_distinct (as_naturals zs)) axes) (omega (arith, ranks)))
 
+transpose_ranks : (scope : Scope) (x : declared_transpose.Transpose) (result : ValueType) → operands_fit scope (Transpose x) result ≡ true → input_rank x.ins_outs ≡ output_rank x.ins_outs
+unfolding operands_fit
+transpose_ranks scope x result fits = equal_numbers (input_rank x.ins_outs) (output_rank x.ins_outs) (both_left _ _ (both_right _ _ fits))
+
 pub transpose_fits : (scope : Scope) (x : declared_transpose.Transpose) (operands : List ℕ) (result : ValueType) (ts : List TensorValue) → AreOfValueTypes (typing_of (Transpose x) result ++ []) ts
     → list_all has_value (typing_of (Transpose x) result) ≡ true → has_value result ≡ true → list_all has_few_dims (operand_types x.ins_outs ++ []) ≡ true → counts_fit (Transpose x) operands ≡ true
     → operands_fit scope (Transpose x) result ≡ true → result_fits scope (Transpose x) result ≡ true → numbers_fit scope (Transpose x) result ≡ true → FitsKind (Transpose x) operands result ts
 unfolding FitsKind HasFewLoops structure_of typing_of counts_fit operands_fit result_fits numbers_fit
 transpose_fits scope x operands result ts typed values value short counts fits gives numbers =
     let few = output_short 1 x.ins_outs [] (one_output 1 x.ins_outs counts) short in
-    let ranks : input_rank x.ins_outs ≡ output_rank x.ins_outs = equal_numbers (input_rank x.ins_outs) (output_rank x.ins_outs) (both_left _ _ (both_right _ _ fits)) in
+    let ranks : input_rank x.ins_outs ≡ output_rank x.ins_outs = transpose_ranks scope x result fits in
     let long = both_left (nat_eq (length x.permutation) (output_rank x.ins_outs)) (are_axes_below (output_rank x.ins_outs) x.permutation) numbers in
     let axes = both_right (nat_eq (length x.permutation) (output_rank x.ins_outs)) (are_axes_below (output_rank x.ins_outs) x.permutation) numbers in
     let counted : length x.permutation ≡ output_rank x.ins_outs = equal_numbers (length x.permutation) (output_rank x.ins_outs) long in

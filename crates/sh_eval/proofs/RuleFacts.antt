@@ -248,10 +248,10 @@ typing_values (Return x) result has h = absurd has
 
 -- ---- what is so of all written types is so of the result's
 
-passes_first : (P : ValueType → Bool) (t : ValueType) (ts : List ValueType) → list_all P (t ∷ ts) ≡ true → P t ≡ true
+pub passes_first : (P : ValueType → Bool) (t : ValueType) (ts : List ValueType) → list_all P (t ∷ ts) ≡ true → P t ≡ true
 passes_first P t ts h = both_left (P t) (list_all P ts) h
 
-passes_second : (P : ValueType → Bool) (t u : ValueType) → list_all P (t ∷ u ∷ []) ≡ true → P u ≡ true
+pub passes_second : (P : ValueType → Bool) (t u : ValueType) → list_all P (t ∷ u ∷ []) ≡ true → P u ≡ true
 passes_second P t u h = passes_first P u [] (both_right (P t) (list_all P (u ∷ [])) h)
 
 passes_last : (P : ValueType → Bool) (ts : List ValueType) (t : ValueType) → list_all P (ts ++ t ∷ []) ≡ true → P t ≡ true
