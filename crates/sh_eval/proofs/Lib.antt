@@ -17,3 +17,4 @@ pub mod NestFits
 pub mod NamedFits
 pub mod RegionFits
 pub mod RegionNests
+pub mod Evaluable
