@@ -18,3 +18,4 @@ pub mod NamedFits
 pub mod RegionFits
 pub mod RegionNests
 pub mod Evaluable
+pub mod CellFits
