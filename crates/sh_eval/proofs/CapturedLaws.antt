@@ -200,6 +200,18 @@ scalar_value value_type.Nothing h = absurd (cc)
 scalar_value value_type.Sharding h = absurd (cc)
 scalar_value value_type.Index h = absurd (cc)
 
+module _ (scope : List Value) (constants : HaveScalarConstants scope) where
+  usable_scalar : (n : ℕ) (o : Option Value) → value_named scope n ≡ o → option_map_or (λ v. v.is_constant) o false ≡ true → is_scalar (option_map_or (λ v. v.value_type) o value_type.Nothing) ≡ true
+  usable_scalar n None e h = absurd (cc)
+  usable_scalar n (Some v) e h = constants n v e h
+
+  pub usable_scalars : (names : List ℕ) → list_all (is_usable scope) names ≡ true → list_all is_scalar (map (type_named scope) names) ≡ true
+  usable_scalars [] h = refl
+  usable_scalars (n ∷ names) h =
+      let here = usable_scalar n (value_named scope n) refl (both_left (is_usable scope n) (list_all (is_usable scope) names) h) in
+      let rest = usable_scalars names (both_right (is_usable scope n) (list_all (is_usable scope) names) h) in
+      rw (here, rest) refl
+
 module _ (scope : List Value) (values : Values) (have : HaveTypes scope values) (constants : HaveScalarConstants scope) where
   usable_here : (n : ℕ) (o : Option Value) → value_named scope n ≡ o → option_map_or (λ v. v.is_constant) o false ≡ true → IsSomeAnd (values n) (IsOfValueType (option_map_or (λ v. v.value_type) o value_type.Nothing))
   usable_here n None e h = absurd (cc)

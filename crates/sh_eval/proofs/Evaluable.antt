@@ -32,13 +32,13 @@ use Rattle.sh_tensor.specs.Tensor.{TensorValue}
 use Rattle.sh_eval.specs.Evaluations.{CanEvaluate, FitsKind}
 use Rattle.sh_eval.specs.Sources.{has_value}
 use Rattle.sh_eval.specs.Values.{IsFew, shapes_of}
-use Rattle.sh_eval.specs.VerifiedOps.{IsOfVerifiedOp}
+use Rattle.sh_eval.specs.VerifiedOps.{HasTensor, IsOfVerifiedOp}
 use Rattle.sh_eval.proofs.CapturedLaws.{are_parted, captured_usable}
 use Rattle.sh_eval.proofs.KindFits.{binary_fits, cast_fits, collapse_fits, compare_fits, constant_fits, empty_fits, expand_fits, extract_fits, insert_fits, select_fits}
 use Rattle.sh_eval.proofs.NamedFits.{batch_matmul_fits, broadcast_fits, conv_1d_fits, conv_2d_fits, dot_fits, fill_fits, matmul_fits, matvec_fits, transpose_fits, vecmat_fits}
 use Rattle.sh_eval.proofs.OperandLaws.{all_types}
 use Rattle.sh_eval.proofs.RegionNests.{IsRegionOf, generic_fits, reduce_fits}
-use Rattle.sh_eval.proofs.RuleFacts.{HasTensor, IsSoundResult, arity, counts_reduce, passes_first, sound, sound_result, spelled_value, typing_values}
+use Rattle.sh_eval.proofs.RuleFacts.{IsSoundResult, arity, counts_reduce, passes_first, sound, sound_result, spelled_value, typing_values}
 use Rattle.sh_eval.proofs.TypeLaws.{AreOfValueTypes}
 
 abbrev op_by : OpKind → List ℕ → Option ℕ → ValueType → Place → Op

@@ -19,3 +19,4 @@ pub mod RegionFits
 pub mod RegionNests
 pub mod Evaluable
 pub mod CellFits
+pub mod ResultTypes

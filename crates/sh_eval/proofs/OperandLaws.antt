@@ -11,9 +11,9 @@ use Rattle.sh_ir.specs.Typing.{are_of_types, typing_of, written_operands}
 use Rattle.sh_ir.specs.Written.{written_by}
 use Rattle.sh_sem.specs.Meaning.{Values}
 use Rattle.sh_eval.specs.Sources.{HaveTypes}
-use Rattle.sh_eval.specs.VerifiedOps.{IsOfVerifiedOp}
+use Rattle.sh_eval.specs.VerifiedOps.{HasTensor, IsOfVerifiedOp}
 use Rattle.sh_eval.proofs.CapturedLaws.{are_parted, captured_types, captured_usable, type_named, usable_named}
-use Rattle.sh_eval.proofs.RuleFacts.{HasTensor, arity, sound, typing_values}
+use Rattle.sh_eval.proofs.RuleFacts.{arity, sound, typing_values}
 use Rattle.sh_eval.proofs.TypeLaws.{AreNamed, Found, found, named_both, named_by}
 
 -- the types of all operands, those that a region uses behind the others

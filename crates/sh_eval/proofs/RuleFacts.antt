@@ -6,8 +6,6 @@ use Rattle.std.specs.List.{list_all, list_any}
 use Rattle.std.specs.Option.{option_map_or}
 use Rattle.std.specs.Prelude.{◌&&◌, ◌||◌, nat_eq, not, is_some}
 use Rattle.sh_base.specs.declared.rules.Rule.TheVariants.{L2, L4, V1, V3, V4, V5, V8, V9, V10}
-use Rattle.sh_ir.specs.declared.classification.OpClass.{OpClass}
-use Rattle.sh_ir.specs.declared.classification.OpClass.TheVariants as class
 use Rattle.sh_ir.specs.declared.linalg_ops.Broadcast as declared_broadcast
 use Rattle.sh_ir.specs.declared.linalg_ops.InsOuts.{InsOuts}
 use Rattle.sh_ir.specs.declared.linalg_ops.Reduce as declared_reduce
@@ -33,7 +31,7 @@ use Rattle.sh_ir.specs.Written.{first_type, test_type, written_by}
 use Rattle.sh_ir.proofs.KeptLaws.{kept_here}
 use Rattle.sh_loops.proofs.InsideLaws.{both_left, both_right}
 use Rattle.sh_eval.specs.Sources.{has_value}
-use Rattle.sh_eval.specs.VerifiedOps.{IsOfVerifiedOp}
+use Rattle.sh_eval.specs.VerifiedOps.{HasTensor, IsOfVerifiedOp}
 use Rattle.sh_eval.proofs.TypeLaws.{equal_numbers}
 
 -- ---- tests
@@ -115,21 +113,6 @@ sound scope op v =
       cells = kept_here L4 scope op (v.keeps L4);
     }
 
--- ---- classes whose operations give a tensor of their operands
-
-abbrev pub HasTensor : OpClass → Type 0
-HasTensor class.Creator = Unit {0}
-HasTensor class.Element = Unit {0}
-HasTensor class.Layout = Unit {0}
-HasTensor class.Structured = Unit {0}
-HasTensor class.Convolution = Unit {0}
-HasTensor class.Sharding = ⊥
-HasTensor class.Note = ⊥
-HasTensor class.DeviceLayout = ⊥
-HasTensor class.Collective = ⊥
-HasTensor class.Call = ⊥
-HasTensor class.Return = ⊥
-
 -- ---- as many types as operands are written
 
 arity_typed : (x : InsOuts) → names_typed x ≡ true → Some (x.ins_count + x.outs_count) ≡ Some (length (operand_types x))
@@ -198,55 +181,7 @@ spelled_values (t ∷ ts) h =
     let rest = spelled_values ts (both_right (is_spelled_type t) (list_all is_spelled_type ts) h) in
     rw (here, rest) refl
 
-all_values : (x : InsOuts) (result : ValueType) → list_all is_spelled_type (operand_types x ++ result ∷ []) ≡ true → list_all has_value (operand_types x) ≡ true
-all_values x result h = spelled_values (operand_types x) (all_front is_spelled_type (operand_types x) (result ∷ []) h)
-
-first_of : (t : ValueType) (ts : List ValueType) → list_all is_spelled_type (t ∷ ts) ≡ true → is_spelled_type t ≡ true
-first_of t ts h = both_left (is_spelled_type t) (list_all is_spelled_type ts) h
-
-second_of : (t u : ValueType) → list_all is_spelled_type (t ∷ u ∷ []) ≡ true → is_spelled_type u ≡ true
-second_of t u h = first_of u [] (both_right (is_spelled_type t) (list_all is_spelled_type (u ∷ [])) h)
-
-pub typing_values : (kind : OpKind) (result : ValueType) → HasTensor (class_of kind) → list_all is_spelled_type (types_in (written_by kind) result) ≡ true → list_all has_value (typing_of kind result) ≡ true
-unfolding typing_of
-typing_values (Constant x) result has h = refl
-typing_values (Binary x) result has h = let r = spelled_value result (first_of result [] h) in rw r refl
-typing_values (Compare x) result has h = let r = spelled_value x.operand_type (first_of x.operand_type [] h) in rw r refl
-typing_values (Select x) result has h = let c = spelled_value x.condition_type (first_of x.condition_type (result ∷ []) h) in let r = spelled_value result (second_of x.condition_type result h) in rw (c, r) refl
-typing_values (Cast x) result has h = let r = spelled_value x.operand_type (first_of x.operand_type (result ∷ []) h) in rw r refl
-typing_values Empty result has h = refl
-typing_values (ExtractSlice x) result has h = let r = spelled_value x.source_type (first_of x.source_type (result ∷ []) h) in rw r refl
-typing_values (InsertSlice x) result has h = let c = spelled_value x.source_type (first_of x.source_type (result ∷ []) h) in let r = spelled_value result (second_of x.source_type result h) in rw (c, r) refl
-typing_values (CollapseShape x) result has h = let r = spelled_value x.source_type (first_of x.source_type (result ∷ []) h) in rw r refl
-typing_values (ExpandShape x) result has h = let r = spelled_value x.source_type (first_of x.source_type (result ∷ []) h) in rw r refl
-typing_values (Fill x) result has h = all_values x result h
-typing_values (Matmul x) result has h = all_values x result h
-typing_values (BatchMatmul x) result has h = all_values x result h
-typing_values (Matvec x) result has h = all_values x result h
-typing_values (Vecmat x) result has h = all_values x result h
-typing_values (Dot x) result has h = all_values x result h
-typing_values (Conv1d x) result has h = all_values x result h
-typing_values (Conv2d x) result has h = all_values x result h
-typing_values (Transpose x) result has h = spelled_values (operand_types x.ins_outs) (all_front is_spelled_type (operand_types x.ins_outs) [] h)
-typing_values (Broadcast x) result has h = spelled_values (operand_types x.ins_outs) (all_front is_spelled_type (operand_types x.ins_outs) [] h)
-typing_values (Reduce x) result has h = spelled_values (operand_types x.ins_outs) (all_front is_spelled_type (operand_types x.ins_outs) [] h)
-typing_values (Generic x) result has h = all_values x.ins_outs result h
-typing_values (Sharding x) result has h = absurd has
-typing_values (Shard x) result has h = absurd has
-typing_values (AllGather x) result has h = absurd has
-typing_values (AllSlice x) result has h = absurd has
-typing_values (AllReduce x) result has h = absurd has
-typing_values (ReduceScatter x) result has h = absurd has
-typing_values (AllToAll x) result has h = absurd has
-typing_values (Shift x) result has h = absurd has
-typing_values (UpdateHalo x) result has h = absurd has
-typing_values (Take x) result has h = absurd has
-typing_values (Pad x) result has h = absurd has
-typing_values (Join x) result has h = absurd has
-typing_values (Call x) result has h = absurd has
-typing_values (Return x) result has h = absurd has
-
--- ---- what is so of all written types is so of the result's
+-- ---- what is so of all written types is so of the operands' and of the result's
 
 pub passes_first : (P : ValueType → Bool) (t : ValueType) (ts : List ValueType) → list_all P (t ∷ ts) ≡ true → P t ≡ true
 passes_first P t ts h = both_left (P t) (list_all P ts) h
@@ -256,6 +191,48 @@ passes_second P t u h = passes_first P u [] (both_right (P t) (list_all P (u ∷
 
 passes_last : (P : ValueType → Bool) (ts : List ValueType) (t : ValueType) → list_all P (ts ++ t ∷ []) ≡ true → P t ≡ true
 passes_last P ts t h = passes_first P t [] (all_back P ts (t ∷ []) h)
+
+pub typing_passes : (P : ValueType → Bool) (kind : OpKind) (result : ValueType) → HasTensor (class_of kind) → list_all P (types_in (written_by kind) result) ≡ true → list_all P (typing_of kind result) ≡ true
+unfolding typing_of
+typing_passes P (Constant x) result has h = refl
+typing_passes P (Binary x) result has h = let r = passes_first P result [] h in rw r refl
+typing_passes P (Compare x) result has h = let r = passes_first P x.operand_type [] h in rw r refl
+typing_passes P (Select x) result has h = let c = passes_first P x.condition_type (result ∷ []) h in let r = passes_second P x.condition_type result h in rw (c, r) refl
+typing_passes P (Cast x) result has h = let r = passes_first P x.operand_type (result ∷ []) h in rw r refl
+typing_passes P Empty result has h = refl
+typing_passes P (ExtractSlice x) result has h = let r = passes_first P x.source_type (result ∷ []) h in rw r refl
+typing_passes P (InsertSlice x) result has h = let c = passes_first P x.source_type (result ∷ []) h in let r = passes_second P x.source_type result h in rw (c, r) refl
+typing_passes P (CollapseShape x) result has h = let r = passes_first P x.source_type (result ∷ []) h in rw r refl
+typing_passes P (ExpandShape x) result has h = let r = passes_first P x.source_type (result ∷ []) h in rw r refl
+typing_passes P (Fill x) result has h = all_front P (operand_types x) (result ∷ []) h
+typing_passes P (Matmul x) result has h = all_front P (operand_types x) (result ∷ []) h
+typing_passes P (BatchMatmul x) result has h = all_front P (operand_types x) (result ∷ []) h
+typing_passes P (Matvec x) result has h = all_front P (operand_types x) (result ∷ []) h
+typing_passes P (Vecmat x) result has h = all_front P (operand_types x) (result ∷ []) h
+typing_passes P (Dot x) result has h = all_front P (operand_types x) (result ∷ []) h
+typing_passes P (Conv1d x) result has h = all_front P (operand_types x) (result ∷ []) h
+typing_passes P (Conv2d x) result has h = all_front P (operand_types x) (result ∷ []) h
+typing_passes P (Transpose x) result has h = all_front P (operand_types x.ins_outs) [] h
+typing_passes P (Broadcast x) result has h = all_front P (operand_types x.ins_outs) [] h
+typing_passes P (Reduce x) result has h = all_front P (operand_types x.ins_outs) [] h
+typing_passes P (Generic x) result has h = all_front P (operand_types x.ins_outs) (result ∷ []) h
+typing_passes P (Sharding x) result has h = absurd has
+typing_passes P (Shard x) result has h = absurd has
+typing_passes P (AllGather x) result has h = absurd has
+typing_passes P (AllSlice x) result has h = absurd has
+typing_passes P (AllReduce x) result has h = absurd has
+typing_passes P (ReduceScatter x) result has h = absurd has
+typing_passes P (AllToAll x) result has h = absurd has
+typing_passes P (Shift x) result has h = absurd has
+typing_passes P (UpdateHalo x) result has h = absurd has
+typing_passes P (Take x) result has h = absurd has
+typing_passes P (Pad x) result has h = absurd has
+typing_passes P (Join x) result has h = absurd has
+typing_passes P (Call x) result has h = absurd has
+typing_passes P (Return x) result has h = absurd has
+
+pub typing_values : (kind : OpKind) (result : ValueType) → HasTensor (class_of kind) → list_all is_spelled_type (types_in (written_by kind) result) ≡ true → list_all has_value (typing_of kind result) ≡ true
+typing_values kind result has h = spelled_values (typing_of kind result) (typing_passes is_spelled_type kind result has h)
 
 -- so many inputs, and one output
 pub record OneOutput (inputs : ℕ) (x : InsOuts) : Type 0 where

@@ -4,6 +4,8 @@ use Rattle.std.specs.List.{AllByRecursion, list_all}
 use Rattle.sh_base.specs.declared.rules.Rule.{Rule}
 use Rattle.sh_ir.specs.declared.bodies.Body.{Body}
 use Rattle.sh_ir.specs.declared.bodies.BodyOp.{BodyOp}
+use Rattle.sh_ir.specs.declared.classification.OpClass.{OpClass}
+use Rattle.sh_ir.specs.declared.classification.OpClass.TheVariants as class
 use Rattle.sh_ir.specs.declared.operations.Op.{Op}
 use Rattle.sh_ir.specs.Formed.{Captures, Defines, OperandsFit, ResultFits, is_block, is_scalar, is_spelled_type}
 use Rattle.sh_ir.specs.Literals.{is_held}
@@ -41,3 +43,18 @@ pub record IsOfVerifiedOp (scope : Scope) (op : Op) : Type 0 where
   pub spelled : list_all is_spelled_type (op_types_of op) ≡ true
   pub held : list_all is_held (written_by op.kind).constants ≡ true
   pub body : MatchOption (written_by op.kind).body ⊤ IsBody
+
+-- ---- classes whose operations give a tensor of their operands
+
+abbrev pub HasTensor : OpClass → Type 0
+HasTensor class.Creator = Unit {0}
+HasTensor class.Element = Unit {0}
+HasTensor class.Layout = Unit {0}
+HasTensor class.Structured = Unit {0}
+HasTensor class.Convolution = Unit {0}
+HasTensor class.Sharding = ⊥
+HasTensor class.Note = ⊥
+HasTensor class.DeviceLayout = ⊥
+HasTensor class.Collective = ⊥
+HasTensor class.Call = ⊥
+HasTensor class.Return = ⊥
