@@ -20,3 +20,4 @@ pub mod RegionNests
 pub mod Evaluable
 pub mod CellFits
 pub mod ResultTypes
+pub mod TypingLaws

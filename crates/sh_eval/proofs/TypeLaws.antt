@@ -201,7 +201,7 @@ found values (type ∷ types) (n ∷ names) h = found_next values type types n n
 -- ---- values of a scope of the types that are written for them
 
 module _ (scope : List Value) (values : Values) (have : HaveTypes scope values) where
-  named_as : (t : ValueType) (n : ℕ) (o : Option Value) → value_named scope n ≡ o → has_value t ≡ true → is_some o ≡ true → option_map_or (λ v. same_type v.value_type t) o true ≡ true
+  pub named_as : (t : ValueType) (n : ℕ) (o : Option Value) → value_named scope n ≡ o → has_value t ≡ true → is_some o ≡ true → option_map_or (λ v. same_type v.value_type t) o true ≡ true
       → IsSomeAnd (values n) (IsOfValueType t)
   named_as t n None e value there same = absurd (cc)
   named_as t n (Some v) e value there same =
