@@ -29,7 +29,7 @@ use Rattle.sh_loops.proofs.InsideLaws.{both_left, both_right}
 use Rattle.sh_sem.specs.Meaning.{Values}
 use Rattle.sh_eval.specs.Sources.{HaveTypes, IsOfValueType, has_value}
 use Rattle.sh_eval.specs.VerifiedOps.{HaveScalarConstants, IsBody, IsBodyOp, IsOfVerifiedOp}
-use Rattle.sh_eval.proofs.RuleFacts.{sound}
+use Rattle.sh_eval.proofs.RuleFacts.{neither_left, neither_right, sound}
 use Rattle.sh_eval.proofs.TypeLaws.{AreNamed}
 
 -- ---- lists of faults
@@ -103,34 +103,21 @@ module _ (outer : List Value) where
             rw b (rw (here, rest) refl)
       ]
 
+  -- a name that isn't the first isn't the first value's
+  other_name : (n : ℕ) (names : List ℕ) (name : ℕ) → is_among (n ∷ names) name ≡ false → nat_eq n name ≡ false
+  other_name n names name h = let apart : nat_eq name n ≡ false = neither_left (nat_eq name n) (is_among names name) h in grind (arith, nat_tests)
+
   are_after : (known : List ℕ) (own : List Value) (n : ℕ) (t : ValueType) → AreOf known own → AreOf (n ∷ known) (plain_value n t ∷ own)
   are_after known own n t are name other =
-      let apart : nat_eq n name ≡ false = go (nat_eq name n) (is_among known name) other (λ e. let f : nat_eq name n ≡ false = e in grind (arith, nat_tests)) in
-      let rest : is_among known name ≡ false = second (nat_eq name n) (is_among known name) other in
-      rw apart (are name rest)
-    where
-      go : (a b : Bool) → (a || b) ≡ false → (a ≡ false → nat_eq n name ≡ false) → nat_eq n name ≡ false
-      go true b h k = absurd (cc)
-      go false b h k = k refl
-
-      second : (a b : Bool) → (a || b) ≡ false → b ≡ false
-      second true b h = absurd (cc)
-      second false b h = h
+      let rest = are name (neither_right (nat_eq name n) (is_among known name) other) in
+      rw (other_name n known name other) rest
 
   are_block : (own : List Value) (names : List ℕ) (widths : List Width) (name : ℕ) → is_among names name ≡ false → value_named own name ≡ None → value_named (with_block own names widths) name ≡ None
   are_block own [] widths name other none = none
   are_block own (n ∷ names) [] name other none = none
   are_block own (n ∷ names) (w ∷ widths) name other none =
-      are_block (plain_value n (value_type.Scalar w) ∷ own) names widths name (second (nat_eq name n) (is_among names name) other)
-      (let apart : nat_eq n name ≡ false = go (nat_eq name n) (is_among names name) other (λ e. let f : nat_eq name n ≡ false = e in grind (arith, nat_tests)) in rw apart none)
-    where
-      go : (a b : Bool) → (a || b) ≡ false → (a ≡ false → nat_eq n name ≡ false) → nat_eq n name ≡ false
-      go true b h k = absurd (cc)
-      go false b h k = k refl
-
-      second : (a b : Bool) → (a || b) ≡ false → b ≡ false
-      second true b h = absurd (cc)
-      second false b h = h
+      let here : value_named (plain_value n (value_type.Scalar w) ∷ own) name ≡ None = rw (other_name n names name other) none in
+      are_block (plain_value n (value_type.Scalar w) ∷ own) names widths name (neither_right (nat_eq name n) (is_among names name) other) here
 
 -- as many operands as types
 pub body_arity : (kind : BodyKind) (operands : List ℕ) (result : ValueType) → OperandsFit (written_in_body kind) operands → length operands ≡ length (body_typing kind result)
@@ -224,7 +211,7 @@ module _ (scope : List Value) (values : Values) (have : HaveTypes scope values) 
 
 -- ---- operands, as they are written and captured
 
-take_long : {X : Type 0} (n m : ℕ) (xs : List X) → length xs ≡ n + m → length (take n xs) ≡ n
+pub take_long : {X : Type 0} (n m : ℕ) (xs : List X) → length xs ≡ n + m → length (take n xs) ≡ n
 take_long zero m xs h = refl
 take_long (suc n) m [] h = absurd (omega (arith, h))
 take_long (suc n) m (x ∷ xs) h = ap suc (take_long n m xs (let all : suc (length xs) ≡ suc n + m = h in omega (arith, all)))

@@ -38,10 +38,10 @@ use Rattle.sh_eval.proofs.KindFits.{binary_fits, cast_fits, collapse_fits, compa
 use Rattle.sh_eval.proofs.NamedFits.{batch_matmul_fits, broadcast_fits, conv_1d_fits, conv_2d_fits, dot_fits, fill_fits, matmul_fits, matvec_fits, transpose_fits, vecmat_fits}
 use Rattle.sh_eval.proofs.OperandLaws.{all_types}
 use Rattle.sh_eval.proofs.RegionNests.{IsRegionOf, generic_fits, reduce_fits}
-use Rattle.sh_eval.proofs.RuleFacts.{IsSoundResult, arity, counts_reduce, passes_first, sound, sound_result, spelled_value, typing_values}
+use Rattle.sh_eval.proofs.RuleFacts.{IsSoundResult, arity, counts_reduce, neither_right, passes_first, sound, sound_result, spelled_value, typing_values}
 use Rattle.sh_eval.proofs.TypeLaws.{AreOfValueTypes}
 
-abbrev op_by : OpKind → List ℕ → Option ℕ → ValueType → Place → Op
+abbrev pub op_by : OpKind → List ℕ → Option ℕ → ValueType → Place → Op
 op_by kind operands defines result place = record { kind = kind; operands = operands; defines = defines; result = result; place = place }
 
 -- without a region there are no other operands
@@ -200,10 +200,6 @@ fits_kind scope (Return x) operands defines result place ts v has typed = absurd
 
 -- ---- few cells
 
-not_either : (a b : Bool) → (a || b) ≡ false → (a ≡ false) × (b ≡ false)
-not_either true b h = absurd (cc)
-not_either false b h = (refl, h)
-
 -- a shape that has the extents of a type which knows all of them is the type's
 pub extents_are : (dims : List Dim) (shape : List ℕ) → list_any differs dims ≡ false → have_extents dims shape ≡ true → map (λ n. Known n) shape ≡ dims
 extents_are [] [] known h = refl
@@ -212,7 +208,7 @@ extents_are (d ∷ dims) [] known h = absurd (cc)
 extents_are (Differs ∷ dims) (n ∷ shape) known h = absurd (cc)
 extents_are (Known m ∷ dims) (n ∷ shape) known h =
     let same = equal_by m n (both_left (m == n) (have_extents dims shape) h) in
-    ap₂ ◌∷◌ (ap (λ k. Known k) (sym same)) (extents_are dims shape (not_either false (list_any differs dims) known).1 (both_right (m == n) (have_extents dims shape) h))
+    ap₂ ◌∷◌ (ap (λ k. Known k) (sym same)) (extents_are dims shape (neither_right false (list_any differs dims) known) (both_right (m == n) (have_extents dims shape) h))
 
 counted_shape : (shape : List ℕ) → map counted_dim (map (λ n. Known n) shape) ≡ map (λ n. max n 1) shape
 counted_shape [] = refl
@@ -245,9 +241,9 @@ few_given op ts sound = go (have_all_extents (typing_of op.kind op.result) (shap
     go true = few
     go false = tt
 
-few_dims : (result : ValueType) → IsSoundResult result → length (dims_of result) ≤ max_rank
+pub few_dims : (t : ValueType) → has_few_dims t ≡ true → length (dims_of t) ≤ max_rank
 unfolding has_few_dims
-few_dims result sound = let short : nat_le (rank_of result) max_rank ≡ true = sound.short in grind (arith, nat_tests)
+few_dims t h = let short : nat_le (rank_of t) max_rank ≡ true = h in grind (arith, nat_tests)
 
 -- ---- an operation can be evaluated
 
@@ -256,6 +252,6 @@ can_evaluate scope op ts v has typed =
     let r = sound_result scope op v has in
     record {
       fits = fits_kind scope op.kind op.operands op.defines op.result op.place ts v has typed;
-      rank = few_dims op.result r;
+      rank = few_dims op.result r.short;
       few = few_given op ts r;
     }

@@ -21,3 +21,4 @@ pub mod Evaluable
 pub mod CellFits
 pub mod ResultTypes
 pub mod TypingLaws
+pub mod ReachedLaws

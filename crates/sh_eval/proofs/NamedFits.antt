@@ -34,7 +34,7 @@ use Rattle.sh_eval.specs.Evaluations.{FitsKind, FitsNest}
 use Rattle.sh_eval.specs.Sources.{has_value}
 use Rattle.sh_eval.proofs.CapturedLaws.{all_filtered}
 use Rattle.sh_eval.proofs.NestFits.{IsNestOf, can_nest, output_width, single_follows, widths_alike, widths_not_more}
-use Rattle.sh_eval.proofs.RuleFacts.{OneOutput, all_back, all_front, one_output}
+use Rattle.sh_eval.proofs.RuleFacts.{OneOutput, all_back, all_front, is_not, neither_left, neither_right, one_output}
 use Rattle.sh_eval.proofs.TypeLaws.{AreOfValueTypes, equal_numbers}
 
 -- ---- values of the operands' types
@@ -150,17 +150,9 @@ unfolding IsDistinct
 distinct_as_keys [] h = tt
 distinct_as_keys (n ∷ numbers) h = (apart numbers (is_not (is_among numbers n) (both_left (not (is_among numbers n)) (are_distinct numbers) h)), distinct_as_keys numbers (both_right (not (is_among numbers n)) (are_distinct numbers) h))
   where
-    is_not : (b : Bool) → not b ≡ true → b ≡ false
-    is_not true e = absurd (cc)
-    is_not false e = refl
-
-    neither : (a b : Bool) → (a || b) ≡ false → (a ≡ false) × (b ≡ false)
-    neither true b e = absurd (cc)
-    neither false b e = (refl, e)
-
     apart : (others : List ℕ) → is_among others n ≡ false → AllByRecursion (λ m. nat_eq n m ≡ false) others
     apart [] e = tt
-    apart (m ∷ others) e = let both = neither (nat_eq n m) (is_among others n) e in (both.0, apart others both.1)
+    apart (m ∷ others) e = (neither_left (nat_eq n m) (is_among others n) e, apart others (neither_right (nat_eq n m) (is_among others n) e))
 
 among_below : (n : ℕ) (numbers : List ℕ) (k q : ℕ) → k < n → list_all (λ m. nat_lt m n) numbers ≡ true → list_any (nat_eq q) (k ∷ numbers) ≡ true → q < n
 among_below n numbers k q below all found = go (nat_eq q k) (λ e. same e) (λ e. rest numbers all e) found

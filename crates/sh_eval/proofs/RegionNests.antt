@@ -34,7 +34,7 @@ use Rattle.sh_tensor.specs.Tensor.{TensorValue}
 use Rattle.sh_eval.specs.Evaluations.{FitsKind, FitsNest}
 use Rattle.sh_eval.specs.Sources.{has_value}
 use Rattle.sh_eval.specs.VerifiedOps.{HaveScalarConstants, IsBody}
-use Rattle.sh_eval.proofs.CapturedLaws.{all_joined, is_usable, type_named}
+use Rattle.sh_eval.proofs.CapturedLaws.{all_joined, is_usable, take_long, type_named}
 use Rattle.sh_eval.proofs.NamedFits.{identity_follows, input_short, output_value, unlisted_follows}
 use Rattle.sh_eval.proofs.NestFits.{IsNestOf, can_nest, output_width, single_follows}
 use Rattle.sh_eval.proofs.RegionFits.{region_fits_widths}
@@ -126,11 +126,6 @@ has_maps x h =
       project = both_left (list_all (is_projection (length x.iterator_types)) x.indexing_maps) _ (both_right _ _ h);
     }
 
-take_long : {X : Type 0} (n : ℕ) (xs : List X) → length xs ≡ n + 1 → length (take n xs) ≡ n
-take_long zero xs h = refl
-take_long (suc n) [] h = absurd (omega (arith, h))
-take_long (suc n) (x ∷ xs) h = ap suc (take_long n xs (let all : suc (length xs) ≡ suc n + 1 = h in omega (arith, all)))
-
 generic_counts : (x : declared_generic.Generic) → names_typed x.ins_outs ≡ true → nat_eq x.ins_outs.outs_count 1 ≡ true → names x.ins_outs.ins_count x.ins_outs ≡ true
 generic_counts x typed outs =
     let same : nat_eq x.ins_outs.ins_count x.ins_outs.ins_count ≡ true = grind (arith, nat_tests) in
@@ -148,7 +143,7 @@ generic_nest x result m one values value gives few =
     record {
       out = one.out;
       outs = one.outs;
-      inputs = length-map (take c x.indexing_maps) (λ m. single m.results) ∙ take_long c x.indexing_maps m.counted ∙ sym one.ins;
+      inputs = length-map (take c x.indexing_maps) (λ m. single m.results) ∙ take_long c 1 x.indexing_maps m.counted ∙ sym one.ins;
       width = output_width x.ins_outs one.out result one.outs out value gives;
       few = few;
       follow = all_joined (follows_loops n) (map (λ m. single m.results) (take c x.indexing_maps)) (single (first_results (drop c x.indexing_maps)) ∷ []) front (rw last refl);

@@ -49,14 +49,11 @@ use Rattle.sh_eval.specs.Sources.{IsOfScalarType, IsOfValueType}
 use Rattle.sh_eval.specs.VerifiedOps.{HasTensor, IsOfVerifiedOp}
 use Rattle.sh_eval.proofs.CapturedLaws.{captured_types, captured_usable, usable_scalars}
 use Rattle.sh_eval.proofs.CellFits.{IsBuilt, Small, all_at, at_within, binary_within, built_typed, cast_within, compare_within, nest_within, select_within}
-use Rattle.sh_eval.proofs.Evaluable.{can_evaluate, extents_are}
+use Rattle.sh_eval.proofs.Evaluable.{can_evaluate, extents_are, op_by}
 use Rattle.sh_eval.proofs.EvaluationLaws.{IsNest, convolution_nest, structured_nest}
 use Rattle.sh_eval.proofs.OperandLaws.{all_types}
 use Rattle.sh_eval.proofs.RuleFacts.{IsSoundResult, sound_result, typing_passes}
 use Rattle.sh_eval.proofs.TypeLaws.{AreOfValueTypes, all_whole}
-
-abbrev op_by : OpKind → List ℕ → Option ℕ → ValueType → Place → Op
-op_by kind operands defines result place = record { kind = kind; operands = operands; defines = defines; result = result; place = place }
 
 -- ---- widths
 

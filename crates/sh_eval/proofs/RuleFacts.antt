@@ -36,11 +36,11 @@ use Rattle.sh_eval.proofs.TypeLaws.{equal_numbers}
 
 -- ---- tests
 
-neither_left : (a b : Bool) → (a || b) ≡ false → a ≡ false
+pub neither_left : (a b : Bool) → (a || b) ≡ false → a ≡ false
 neither_left true b h = absurd (cc)
 neither_left false b h = refl
 
-neither_right : (a b : Bool) → (a || b) ≡ false → b ≡ false
+pub neither_right : (a b : Bool) → (a || b) ≡ false → b ≡ false
 neither_right true b h = absurd (cc)
 neither_right false b h = h
 
@@ -189,7 +189,7 @@ passes_first P t ts h = both_left (P t) (list_all P ts) h
 pub passes_second : (P : ValueType → Bool) (t u : ValueType) → list_all P (t ∷ u ∷ []) ≡ true → P u ≡ true
 passes_second P t u h = passes_first P u [] (both_right (P t) (list_all P (u ∷ [])) h)
 
-passes_last : (P : ValueType → Bool) (ts : List ValueType) (t : ValueType) → list_all P (ts ++ t ∷ []) ≡ true → P t ≡ true
+pub passes_last : (P : ValueType → Bool) (ts : List ValueType) (t : ValueType) → list_all P (ts ++ t ∷ []) ≡ true → P t ≡ true
 passes_last P ts t h = passes_first P t [] (all_back P ts (t ∷ []) h)
 
 pub typing_passes : (P : ValueType → Bool) (kind : OpKind) (result : ValueType) → HasTensor (class_of kind) → list_all P (types_in (written_by kind) result) ≡ true → list_all P (typing_of kind result) ≡ true

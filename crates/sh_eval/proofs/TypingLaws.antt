@@ -38,13 +38,11 @@ use Rattle.sh_eval.specs.VerifiedOps.{HasTensor, IsOfVerifiedOp}
 use Rattle.sh_eval.specs.Evaluations.{kind_value}
 use Rattle.sh_eval.specs.Values.{shapes_of}
 use Rattle.sh_eval.proofs.EvaluationLaws.{default_value, given_apart}
+use Rattle.sh_eval.proofs.Evaluable.{op_by}
 use Rattle.sh_eval.proofs.OperandLaws.{all_types, operands_there}
 use Rattle.sh_eval.proofs.ResultTypes.{result_typed}
 use Rattle.sh_eval.proofs.RuleFacts.{sound, spelled_value}
 use Rattle.sh_eval.proofs.TypeLaws.{AreOfValueTypes, Found, named_as}
-
-abbrev op_by : OpKind → List ℕ → Option ℕ → ValueType → Place → Op
-op_by kind operands defines result place = record { kind = kind; operands = operands; defines = defines; result = result; place = place }
 
 -- ---- one value more
 
@@ -142,14 +140,13 @@ note_after scope x defines result place operands values after v have h =
     subst (HaveTypes (values_after scope.values op)) own.after_is (own_after scope.values values have op defines own.t typed)
 
 -- a call gives nothing
-call_gives : (x : declared_call.Call) (operands : List ℕ) (result : ValueType) → giving (Call x) operands result alone ≡ None
+pub call_gives : (x : declared_call.Call) (operands : List ℕ) (result : ValueType) → giving (Call x) operands result alone ≡ None
 unfolding giving
 call_gives x operands result = refl
 
-not_given : (x : declared_call.Call) (operands : List ℕ) (defines : Option ℕ) (result : ValueType) (place : Place) (ts : List TensorValue) (t : TensorValue) → given (op_by (Call x) operands defines result place) alone ts ≡ Some t → ⊥
-not_given x operands defines result place ts t h =
-    let op = op_by (Call x) operands defines result place in
-    go (have_all_extents (typing_of (Call x) result) (shapes_of ts)) (kind_value op alone ts) (default_value op alone ts (call_gives x operands result)) (sym (given_apart op alone ts) ∙ h)
+pub none_given : (op : Op) (ts : List TensorValue) (t : TensorValue) → giving op.kind op.operands op.result alone ≡ None → given op alone ts ≡ Some t → ⊥
+none_given op ts t none h =
+    go (have_all_extents (typing_of op.kind op.result) (shapes_of ts)) (kind_value op alone ts) (default_value op alone ts none) (sym (given_apart op alone ts) ∙ h)
   where
     go : (b : Bool) (o : Option TensorValue) → None ≡ o → (if b then o else None) ≡ Some t → ⊥
     go true o e f = none-some t (e ∙ f)
@@ -161,7 +158,7 @@ call_after x operands defines result place values after h =
     let op = op_by (Call x) operands defines result place in
     let own = has_own op values after (value_in op values) h in
     let g = is_given op values own.t own.is in
-    not_given x operands defines result place g.ts own.t g.given_is
+    none_given op g.ts own.t (call_gives x operands result) g.given_is
 
 not_of_source : false ≡ true → ⊥
 not_of_source h = cc

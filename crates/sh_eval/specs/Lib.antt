@@ -6,3 +6,4 @@ pub mod Values
 pub mod Evaluations
 pub mod Sources
 pub mod VerifiedOps
+pub mod Reached
