@@ -1,14 +1,14 @@
 -- The values of a function that a region uses are scalars of the scope.
-use Rattle.std.proofs.Common.{◌≡◌, ℕ, zero, suc, ◌+◌, Bool, true, false, List, [], ◌∷◌, ◌++◌, map, length, take, drop, Option, Some, None, refl, ap, ap₂, sym, ◌∙◌, arith, subst, inl, inr}
+use Rattle.std.proofs.Common.{◌≡◌, ℕ, zero, suc, ◌+◌, Bool, true, false, List, [], ◌∷◌, ◌++◌, map, length, take, drop, Option, Some, None, refl, ap, sym, ◌∙◌, arith, subst, inl, inr}
 use Rattle.std.proofs.lemmas.Bool.{cases_Bool}
 use Rattle.std.proofs.lemmas.Bool.Decides.{nat_tests}
 use Rattle.std.proofs.lemmas.List.{take-append-drop}
-use Rattle.std.specs.List.{AllByRecursion, list_all, list_any}
+use Rattle.std.specs.List.{AllByRecursion, list_all}
 use Rattle.std.specs.Option.{option_map_or}
 use Rattle.std.specs.Prelude.{◌&&◌, ◌||◌, IsSomeAnd, MatchOption, ⊤, filter, if◌then◌else◌, is_some, nat_eq, not}
 use Rattle.sh_base.specs.declared.numbers.Width.{Width}
 use Rattle.sh_base.specs.declared.places.Refusal.{Refusal}
-use Rattle.sh_base.specs.declared.rules.Rule.TheVariants.{V1, V9}
+use Rattle.sh_base.specs.declared.rules.Rule.TheVariants.{V1}
 use Rattle.sh_ir.specs.declared.bodies.Body.{Body}
 use Rattle.sh_ir.specs.declared.bodies.BodyKind.{BodyKind}
 use Rattle.sh_ir.specs.declared.bodies.BodyKind.TheVariants.{Constant, Binary, Compare, Select, Cast, Index, IndexCast}
@@ -66,7 +66,8 @@ all_firsts : (p : ℕ → Bool) (names : List ℕ) → list_all p names ≡ true
 all_firsts p [] h = refl
 all_firsts p (n ∷ names) h =
     let here = both_left (p n) (list_all p names) h in
-    let rest = all_filtered p (λ other. not (nat_eq n other)) (first_occurrences names) (all_firsts p names (both_right (p n) (list_all p names) h)) in
+    let rest = all_filtered p (λ other. not (nat_eq n other)) (first_occurrences names)
+    (all_firsts p names (both_right (p n) (list_all p names) h)) in
     rw (here, rest) refl
 
 -- ---- a name that a region uses and doesn't define
@@ -76,7 +77,8 @@ abbrev pub is_usable : List Value → ℕ → Bool
 is_usable outer name = option_map_or (λ v. v.is_constant) (value_named outer name) false
 
 usable_by : (own outer : Option Value) (t : ValueType) → own ≡ None → (is_some own || is_some outer) ≡ true
-    → option_map_or (λ v. same_type v.value_type t) own (option_map_or (λ v. v.is_constant && same_type v.value_type t) outer true) ≡ true → option_map_or (λ v. v.is_constant) outer false ≡ true
+    → option_map_or (λ v. same_type v.value_type t) own (option_map_or (λ v. v.is_constant && same_type v.value_type t) outer true) ≡ true
+    → option_map_or (λ v. v.is_constant) outer false ≡ true
 usable_by (Some v) outer t none there stands = absurd (cc)
 usable_by None None t none there stands = absurd (cc)
 usable_by None (Some v) t none there stands = both_left v.is_constant (same_type v.value_type t) stands
@@ -86,41 +88,49 @@ abbrev AreOf : List ℕ → List Value → Type 0
 AreOf known own = (name : ℕ) → is_among known name ≡ false → value_named own name ≡ None
 
 module _ (outer : List Value) where
-  outside_usable : (own : List Value) (known : List ℕ) (types : List ValueType) (names : List ℕ) → AreOf known own → length names ≡ length types → list_all (is_there outer own) names ≡ true
+  outside_usable : (own : List Value) (known : List ℕ) (types : List ValueType) (names : List ℕ) → AreOf known own
+      → length names ≡ length types → list_all (is_there outer own) names ≡ true
       → stand_for outer own types names ≡ true → list_all (is_usable outer) (outside known names) ≡ true
   outside_usable own known [] [] are long there stand = refl
   outside_usable own known [] (n ∷ names) are long there stand = absurd (omega (arith, long))
   outside_usable own known (t ∷ types) [] are long there stand = absurd (omega (arith, long))
   outside_usable own known (t ∷ types) (n ∷ names) are long there stand =
       let shorter : length names ≡ length types = let all : suc (length names) ≡ suc (length types) = long in omega (arith, all) in
-      let rest = outside_usable own known types names are shorter (both_right (is_there outer own n) (list_all (is_there outer own) names) there) (both_right (stands_for outer own t n) (stand_for outer own types names) stand) in
+      let rest = outside_usable own known types names are shorter
+      (both_right (is_there outer own n) (list_all (is_there outer own) names) there)
+      (both_right (stands_for outer own t n) (stand_for outer own types names) stand) in
       elim (cases_Bool (is_among known n)) [
         | inl b ↦ rw b rest
         | inr b ↦
             let here : is_usable outer n ≡ true =
-            usable_by (value_named own n) (value_named outer n) t (are n b) (both_left (is_there outer own n) (list_all (is_there outer own) names) there)
+            usable_by (value_named own n) (value_named outer n) t (are n b)
+            (both_left (is_there outer own n) (list_all (is_there outer own) names) there)
             (both_left (stands_for outer own t n) (stand_for outer own types names) stand) in
             rw b (rw (here, rest) refl)
       ]
 
   -- a name that isn't the first isn't the first value's
   other_name : (n : ℕ) (names : List ℕ) (name : ℕ) → is_among (n ∷ names) name ≡ false → nat_eq n name ≡ false
-  other_name n names name h = let apart : nat_eq name n ≡ false = neither_left (nat_eq name n) (is_among names name) h in grind (arith, nat_tests)
+  other_name n names name h =
+      let apart : nat_eq name n ≡ false = neither_left (nat_eq name n) (is_among names name) h in grind (arith, nat_tests)
 
   are_after : (known : List ℕ) (own : List Value) (n : ℕ) (t : ValueType) → AreOf known own → AreOf (n ∷ known) (plain_value n t ∷ own)
   are_after known own n t are name other =
       let rest = are name (neither_right (nat_eq name n) (is_among known name) other) in
       rw (other_name n known name other) rest
 
-  are_block : (own : List Value) (names : List ℕ) (widths : List Width) (name : ℕ) → is_among names name ≡ false → value_named own name ≡ None → value_named (with_block own names widths) name ≡ None
+  are_block : (own : List Value) (names : List ℕ) (widths : List Width) (name : ℕ) → is_among names name ≡ false
+      → value_named own name ≡ None → value_named (with_block own names widths) name ≡ None
   are_block own [] widths name other none = none
   are_block own (n ∷ names) [] name other none = none
   are_block own (n ∷ names) (w ∷ widths) name other none =
       let here : value_named (plain_value n (value_type.Scalar w) ∷ own) name ≡ None = rw (other_name n names name other) none in
-      are_block (plain_value n (value_type.Scalar w) ∷ own) names widths name (neither_right (nat_eq name n) (is_among names name) other) here
+      are_block (plain_value n (value_type.Scalar w) ∷ own) names widths name
+      (neither_right (nat_eq name n) (is_among names name) other) here
 
 -- as many operands as types
-pub body_arity : (kind : BodyKind) (operands : List ℕ) (result : ValueType) → OperandsFit (written_in_body kind) operands → length operands ≡ length (body_typing kind result)
+pub body_arity : (kind : BodyKind) (operands : List ℕ) (result : ValueType) → OperandsFit (written_in_body kind) operands
+    → length operands ≡ length (body_typing kind result)
 unfolding body_typing
 body_arity (Constant x) operands result h = h
 body_arity (Binary x) operands result h = h
@@ -130,47 +140,60 @@ body_arity (Cast x) operands result h = h
 body_arity (Index x) operands result h = h
 body_arity IndexCast operands result h = h
 
-there_in_region : (loops : ℕ) (outer own : List Value) (op : BodyOp) (r : Refusal) → (if keeps_in_region V1 loops outer own op then [] else r ∷ []) ≡ [] → list_all (is_there outer own) op.operands ≡ true
+there_in_region : (loops : ℕ) (outer own : List Value) (op : BodyOp) (r : Refusal)
+    → (if keeps_in_region V1 loops outer own op then [] else r ∷ []) ≡ [] → list_all (is_there outer own) op.operands ≡ true
 unfolding keeps_in_region
 there_in_region loops outer own op r h = no_fault (list_all (is_there outer own) op.operands) r h
 
-there_at_yield : (outer own : List Value) (yields : ℕ) (r : Refusal) → (if keeps_at_yield V1 outer own yields then [] else r ∷ []) ≡ [] → is_there outer own yields ≡ true
+there_at_yield : (outer own : List Value) (yields : ℕ) (r : Refusal) → (if keeps_at_yield V1 outer own yields then [] else r ∷ []) ≡ []
+    → is_there outer own yields ≡ true
 unfolding keeps_at_yield
 there_at_yield outer own yields r h = no_fault (is_there outer own yields) r h
 
 -- from these operations on
-uses_usable : (loops : ℕ) (outer own : List Value) (known : List ℕ) (ops : List BodyOp) (body : Body) (w : Width) → AreOf known own → body_faults (V1 ∷ []) loops outer own ops body ≡ []
-    → are_typed outer own ops body.yields w ≡ true → AllByRecursion IsBodyOp ops → list_all (is_usable outer) (outer_uses known ops body.yields) ≡ true
+uses_usable : (loops : ℕ) (outer own : List Value) (known : List ℕ) (ops : List BodyOp) (body : Body) (w : Width) → AreOf known own
+    → body_faults (V1 ∷ []) loops outer own ops body ≡ []
+    → are_typed outer own ops body.yields w ≡ true → AllByRecursion IsBodyOp ops
+    → list_all (is_usable outer) (outer_uses known ops body.yields) ≡ true
 uses_usable loops outer own known [] body w are kept typed formed =
     let there : is_there outer own body.yields ≡ true = there_at_yield outer own body.yields _ kept in
     outside_usable outer own known (value_type.Scalar w ∷ []) (body.yields ∷ []) are refl (rw there refl) (rw typed refl)
 uses_usable loops outer own known (op ∷ ops) body w are kept typed formed =
-    let here = left_empty (faults_at op.place (V1 ∷ []) (λ rule. keeps_in_region rule loops outer own op)) (body_faults (V1 ∷ []) loops outer (own_after own op) ops body) kept in
-    let rest = right_empty (faults_at op.place (V1 ∷ []) (λ rule. keeps_in_region rule loops outer own op)) (body_faults (V1 ∷ []) loops outer (own_after own op) ops body) kept in
+    let here = left_empty (faults_at op.place (V1 ∷ []) (λ rule. keeps_in_region rule loops outer own op))
+    (body_faults (V1 ∷ []) loops outer (own_after own op) ops body) kept in
+    let rest = right_empty (faults_at op.place (V1 ∷ []) (λ rule. keeps_in_region rule loops outer own op))
+    (body_faults (V1 ∷ []) loops outer (own_after own op) ops body) kept in
     let typed_here = both_left (is_typed outer own op) (are_typed outer (own_after own op) ops body.yields w) typed in
     all_joined (is_usable outer) (outside known op.operands) (outer_uses (op.defines ∷ known) ops body.yields)
-    (outside_usable outer own known (body_typing op.kind op.result) op.operands are (body_arity op.kind op.operands op.result formed.0.counted) (there_in_region loops outer own op _ here)
+    (outside_usable outer own known (body_typing op.kind op.result) op.operands are
+    (body_arity op.kind op.operands op.result formed.0.counted) (there_in_region loops outer own op _ here)
     (both_right (is_scalar_op op.kind op.result) (stand_for outer own (body_typing op.kind op.result) op.operands) typed_here))
     (uses_usable loops outer (own_after own op) (op.defines ∷ known) ops body w (are_after outer known own op.defines op.result are) rest
     (both_right (is_typed outer own op) (are_typed outer (own_after own op) ops body.yields w) typed) formed.1)
 
-region_typed : (outer : List Value) (operands : List ValueType) (body : Body) → region_fits outer operands body ≡ true → are_typed outer (block_of body) body.ops body.yields body.width ≡ true
+region_typed : (outer : List Value) (operands : List ValueType) (body : Body) → region_fits outer operands body ≡ true
+    → are_typed outer (block_of body) body.ops body.yields body.width ≡ true
 unfolding region_fits
 region_typed outer operands body h = both_right _ _ (both_right _ _ h)
 
 -- ---- of an operation
 
-captured_by_body : (scope : Scope) (kind : OpKind) (o : Option Body) → option_map_or (λ body. body_faults (V1 ∷ []) (loop_count kind) scope.values (block_of body) body.ops body) o [] ≡ []
-    → option_map_or (region_fits scope.values (loop_operands kind)) o true ≡ true → MatchOption o ⊤ IsBody → list_all (is_usable scope.values) (option_map_or captured_by o []) ≡ true
+captured_by_body : (scope : Scope) (kind : OpKind) (o : Option Body)
+    → option_map_or (λ body. body_faults (V1 ∷ []) (loop_count kind) scope.values (block_of body) body.ops body) o [] ≡ []
+    → option_map_or (region_fits scope.values (loop_operands kind)) o true ≡ true → MatchOption o ⊤ IsBody
+    → list_all (is_usable scope.values) (option_map_or captured_by o []) ≡ true
 captured_by_body scope kind None kept typed formed = refl
 captured_by_body scope kind (Some body) kept typed formed =
     all_firsts (is_usable scope.values) (outer_uses body.args body.ops body.yields)
-    (uses_usable (loop_count kind) scope.values (block_of body) body.args body.ops body body.width (λ name other. are_block scope.values [] body.args body.widths name other refl) kept
+    (uses_usable (loop_count kind) scope.values (block_of body) body.args body.ops body body.width
+    (λ name other. are_block scope.values [] body.args body.widths name other refl) kept
     (region_typed scope.values (loop_operands kind) body typed) formed.ops)
 
-pub captured_usable : (scope : Scope) (op : Op) → IsOfVerifiedOp scope op → list_all (is_usable scope.values) (captured_in (written_by op.kind)) ≡ true
+pub captured_usable : (scope : Scope) (op : Op) → IsOfVerifiedOp scope op
+    → list_all (is_usable scope.values) (captured_in (written_by op.kind)) ≡ true
 unfolding region_faults has_region_in_order
-captured_usable scope op v = captured_by_body scope op.kind (written_by op.kind).body (kept_inside V1 scope op (v.keeps V1)) (sound scope op v).region v.body
+captured_usable scope op v =
+    captured_by_body scope op.kind (written_by op.kind).body (kept_inside V1 scope op (v.keeps V1)) (sound scope op v).region v.body
 
 -- the type of the value that a name stands for
 abbrev pub type_named : List Value → ℕ → ValueType
@@ -188,7 +211,8 @@ scalar_value value_type.Sharding h = absurd (cc)
 scalar_value value_type.Index h = absurd (cc)
 
 module _ (scope : List Value) (constants : HaveScalarConstants scope) where
-  usable_scalar : (n : ℕ) (o : Option Value) → value_named scope n ≡ o → option_map_or (λ v. v.is_constant) o false ≡ true → is_scalar (option_map_or (λ v. v.value_type) o value_type.Nothing) ≡ true
+  usable_scalar : (n : ℕ) (o : Option Value) → value_named scope n ≡ o → option_map_or (λ v. v.is_constant) o false ≡ true
+      → is_scalar (option_map_or (λ v. v.value_type) o value_type.Nothing) ≡ true
   usable_scalar n None e h = absurd (cc)
   usable_scalar n (Some v) e h = constants n v e h
 
@@ -200,14 +224,18 @@ module _ (scope : List Value) (constants : HaveScalarConstants scope) where
       rw (here, rest) refl
 
 module _ (scope : List Value) (values : Values) (have : HaveTypes scope values) (constants : HaveScalarConstants scope) where
-  usable_here : (n : ℕ) (o : Option Value) → value_named scope n ≡ o → option_map_or (λ v. v.is_constant) o false ≡ true → IsSomeAnd (values n) (IsOfValueType (option_map_or (λ v. v.value_type) o value_type.Nothing))
+  usable_here : (n : ℕ) (o : Option Value) → value_named scope n ≡ o → option_map_or (λ v. v.is_constant) o false ≡ true
+      → IsSomeAnd (values n) (IsOfValueType (option_map_or (λ v. v.value_type) o value_type.Nothing))
   usable_here n None e h = absurd (cc)
   usable_here n (Some v) e h = have n v e (scalar_value v.value_type (constants n v e h))
 
   pub usable_named : (names : List ℕ) → list_all (is_usable scope) names ≡ true → AreNamed values (map (type_named scope) names) names
   usable_named [] h = tt
-  usable_named (n ∷ names) h =
-      (usable_here n (value_named scope n) refl (both_left (is_usable scope n) (list_all (is_usable scope) names) h), usable_named names (both_right (is_usable scope n) (list_all (is_usable scope) names) h))
+  usable_named (n ∷ names) h = (
+    usable_here n (value_named scope n) refl (both_left (is_usable scope n) (list_all (is_usable scope) names) h),
+    usable_named names
+        (both_right (is_usable scope n) (list_all (is_usable scope) names) h),
+  )
 
 -- ---- operands, as they are written and captured
 
@@ -227,16 +255,20 @@ pub record AreParted (x : Written) (n : ℕ) (operands : List ℕ) : Type 0 wher
   pub long : length (take n operands) ≡ n
   pub captured : drop n operands ≡ captured_in x
 
-captured_are : (o : Option Body) (n : ℕ) (operands : List ℕ) → length operands ≡ n + length (option_map_or captured_by o []) → MatchOption o ⊤ (λ body. drop n operands ≡ captured_by body)
+captured_are : (o : Option Body) (n : ℕ) (operands : List ℕ) → length operands ≡ n + length (option_map_or captured_by o [])
+    → MatchOption o ⊤ (λ body. drop n operands ≡ captured_by body)
     → drop n operands ≡ option_map_or captured_by o []
 captured_are None n operands long h = drop_none n operands long
 captured_are (Some body) n operands long h = h
 
-pub are_parted : (x : Written) (n : ℕ) (operands : List ℕ) → x.operands ≡ Some n → OperandsFit x operands → Captures x operands → AreParted x n operands
+pub are_parted : (x : Written) (n : ℕ) (operands : List ℕ) → x.operands ≡ Some n → OperandsFit x operands → Captures x operands
+    → AreParted x n operands
 are_parted x n operands e fits captures =
-    let long : length operands ≡ n + length (captured_in x) = subst (λ o. MatchOption o ⊤ (λ count. length operands ≡ count + length (captured_in x))) e fits in
+    let long : length operands ≡ n + length (captured_in x) = subst
+    (λ o. MatchOption o ⊤ (λ count. length operands ≡ count + length (captured_in x))) e fits in
     let same : drop n operands ≡ captured_in x =
-    captured_are x.body n operands long (subst (λ o. MatchOption x.body ⊤ (λ body. drop (option_map_or (λ m. m) o 0) operands ≡ captured_by body)) e captures) in
+    captured_are x.body n operands long (subst
+    (λ o. MatchOption x.body ⊤ (λ body. drop (option_map_or (λ m. m) o 0) operands ≡ captured_by body)) e captures) in
     record {
       all = ap (λ names. take n operands ++ names) (sym same) ∙ take-append-drop n operands;
       long = take_long n (length (captured_in x)) operands long;

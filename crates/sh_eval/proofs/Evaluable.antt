@@ -3,7 +3,7 @@ use Rattle.std.proofs.Common.{◌≡◌, ℕ, ◌≤◌, Bool, true, false, List
 use Rattle.std.proofs.lemmas.Bool.Decides.{nat_tests}
 use Rattle.std.proofs.lemmas.List.{append-nil}
 use Rattle.std.specs.List.{list_any}
-use Rattle.std.specs.Prelude.{◌&&◌, ◌||◌, ◌==◌, IfSome, if◌then◌else◌, nat_le, option_and_then}
+use Rattle.std.specs.Prelude.{◌==◌, IfSome, if◌then◌else◌, nat_le, option_and_then}
 use Rattle.sh_base.specs.Shape.{cell_count, max_cells, max_rank}
 use Rattle.sh_base.specs.declared.places.Place.{Place}
 use Rattle.sh_ir.specs.declared.linalg_ops.Generic as declared_generic
@@ -30,7 +30,6 @@ use Rattle.sh_sem.specs.Given.{Giving, alone, giving, have_all_extents, of_dims,
 use Rattle.sh_sem.specs.Types.{have_extents}
 use Rattle.sh_tensor.specs.Tensor.{TensorValue}
 use Rattle.sh_eval.specs.Evaluations.{CanEvaluate, FitsKind}
-use Rattle.sh_eval.specs.Sources.{has_value}
 use Rattle.sh_eval.specs.Values.{IsFew, shapes_of}
 use Rattle.sh_eval.specs.VerifiedOps.{HasTensor, IsOfVerifiedOp}
 use Rattle.sh_eval.proofs.CapturedLaws.{are_parted, captured_usable}
@@ -50,11 +49,13 @@ plain types ts typed = subst (λ us. AreOfValueTypes us ts) (append-nil types) t
 
 -- ---- regions
 
-region_of_reduce : (scope : Scope) (x : declared_reduce.Reduce) → has_region_in_order scope (Reduce x) ≡ true → region_fits scope.values (operand_types x.ins_outs) x.body ≡ true
+region_of_reduce : (scope : Scope) (x : declared_reduce.Reduce) → has_region_in_order scope (Reduce x) ≡ true
+    → region_fits scope.values (operand_types x.ins_outs) x.body ≡ true
 unfolding has_region_in_order structure_of
 region_of_reduce scope x h = h
 
-region_of_generic : (scope : Scope) (x : declared_generic.Generic) → has_region_in_order scope (Generic x) ≡ true → region_fits scope.values (operand_types x.ins_outs) x.body ≡ true
+region_of_generic : (scope : Scope) (x : declared_generic.Generic) → has_region_in_order scope (Generic x) ≡ true
+    → region_fits scope.values (operand_types x.ins_outs) x.body ≡ true
 unfolding has_region_in_order structure_of
 region_of_generic scope x h = h
 
@@ -66,7 +67,8 @@ generic_types : (x : declared_generic.Generic) (result : ValueType) → typing_o
 unfolding typing_of
 generic_types x result = refl
 
-reduce_region : (scope : Scope) (x : declared_reduce.Reduce) (operands : List ℕ) (defines : Option ℕ) (result : ValueType) (place : Place) → IsOfVerifiedOp scope (op_by (Reduce x) operands defines result place)
+reduce_region : (scope : Scope) (x : declared_reduce.Reduce) (operands : List ℕ) (defines : Option ℕ) (result : ValueType) (place : Place)
+    → IsOfVerifiedOp scope (op_by (Reduce x) operands defines result place)
     → IsRegionOf scope.values x.body operands (operand_types x.ins_outs)
 reduce_region scope x operands defines result place v =
     let s = sound scope (op_by (Reduce x) operands defines result place) v in
@@ -76,11 +78,14 @@ reduce_region scope x operands defines result place v =
       constants = v.constants;
       usable = captured_usable scope (op_by (Reduce x) operands defines result place) v;
       formed = v.body;
-      captured = ap (λ (types : List ValueType). drop (length types) operands) (sym (reduce_types x result)) ∙ (are_parted (written_by (Reduce x)) n operands count v.counted v.captures).captured;
+      captured =
+          ap (λ (types : List ValueType). drop (length types) operands) (sym (reduce_types x result)) ∙
+          (are_parted (written_by (Reduce x)) n operands count v.counted v.captures).captured;
       fits = region_of_reduce scope x s.region;
     }
 
-generic_region : (scope : Scope) (x : declared_generic.Generic) (operands : List ℕ) (defines : Option ℕ) (result : ValueType) (place : Place) → IsOfVerifiedOp scope (op_by (Generic x) operands defines result place)
+generic_region : (scope : Scope) (x : declared_generic.Generic) (operands : List ℕ) (defines : Option ℕ) (result : ValueType)
+    (place : Place) → IsOfVerifiedOp scope (op_by (Generic x) operands defines result place)
     → IsRegionOf scope.values x.body operands (operand_types x.ins_outs)
 generic_region scope x operands defines result place v =
     let s = sound scope (op_by (Generic x) operands defines result place) v in
@@ -90,39 +95,53 @@ generic_region scope x operands defines result place v =
       constants = v.constants;
       usable = captured_usable scope (op_by (Generic x) operands defines result place) v;
       formed = v.body;
-      captured = ap (λ (types : List ValueType). drop (length types) operands) (sym (generic_types x result)) ∙ (are_parted (written_by (Generic x)) n operands count v.counted v.captures).captured;
+      captured =
+          ap (λ (types : List ValueType). drop (length types) operands) (sym (generic_types x result)) ∙
+          (are_parted (written_by (Generic x)) n operands count v.counted v.captures).captured;
       fits = region_of_generic scope x s.region;
     }
 
 -- ---- kind by kind
 
-fits_kind : (scope : Scope) (kind : OpKind) (operands : List ℕ) (defines : Option ℕ) (result : ValueType) (place : Place) (ts : List TensorValue) → IsOfVerifiedOp scope (op_by kind operands defines result place)
-    → HasTensor (class_of kind) → AreOfValueTypes (all_types scope (op_by kind operands defines result place)) ts → FitsKind kind operands result ts
-fits_kind scope (Constant x) operands defines result place ts v has typed = constant_fits x operands result ts (both_left (is_held x) true v.held) v.result
-fits_kind scope (Binary x) operands defines result place ts v has typed = binary_fits x operands result ts (plain (typing_of (Binary x) result) ts typed)
-fits_kind scope (Compare x) operands defines result place ts v has typed = compare_fits x operands result ts (plain (typing_of (Compare x) result) ts typed) (spelled_value x.operand_type (passes_first is_spelled_type x.operand_type [] v.spelled)) v.result
-fits_kind scope (Select x) operands defines result place ts v has typed = select_fits x operands result ts (plain (typing_of (Select x) result) ts typed)
+fits_kind : (scope : Scope) (kind : OpKind) (operands : List ℕ) (defines : Option ℕ) (result : ValueType) (place : Place)
+    (ts : List TensorValue) → IsOfVerifiedOp scope (op_by kind operands defines result place)
+    → HasTensor (class_of kind) → AreOfValueTypes (all_types scope (op_by kind operands defines result place)) ts
+    → FitsKind kind operands result ts
+fits_kind scope (Constant x) operands defines result place ts v has typed =
+    constant_fits x operands result ts (both_left (is_held x) true v.held) v.result
+fits_kind scope (Binary x) operands defines result place ts v has typed =
+    binary_fits x operands result ts (plain (typing_of (Binary x) result) ts typed)
+fits_kind scope (Compare x) operands defines result place ts v has typed =
+    compare_fits x operands result ts (plain (typing_of (Compare x) result) ts typed)
+    (spelled_value x.operand_type (passes_first is_spelled_type x.operand_type [] v.spelled)) v.result
+fits_kind scope (Select x) operands defines result place ts v has typed =
+    select_fits x operands result ts (plain (typing_of (Select x) result) ts typed)
 fits_kind scope (Cast x) operands defines result place ts v has typed =
     let s = sound scope (op_by (Cast x) operands defines result place) v in
     let value = spelled_value result (sound_result scope (op_by (Cast x) operands defines result place) v has).spelled in
-    cast_fits scope x operands result ts (plain (typing_of (Cast x) result) ts typed) (spelled_value x.operand_type (passes_first is_spelled_type x.operand_type (result ∷ []) v.spelled)) value s.results
+    cast_fits scope x operands result ts (plain (typing_of (Cast x) result) ts typed)
+    (spelled_value x.operand_type (passes_first is_spelled_type x.operand_type (result ∷ []) v.spelled)) value s.results
 fits_kind scope Empty operands defines result place ts v has typed = empty_fits operands result ts
 fits_kind scope (ExtractSlice x) operands defines result place ts v has typed =
     let s = sound scope (op_by (ExtractSlice x) operands defines result place) v in
     let value = spelled_value result (sound_result scope (op_by (ExtractSlice x) operands defines result place) v has).spelled in
-    extract_fits scope x operands result ts (plain (typing_of (ExtractSlice x) result) ts typed) (spelled_value x.source_type (passes_first is_spelled_type x.source_type (result ∷ []) v.spelled)) value s.results
+    extract_fits scope x operands result ts (plain (typing_of (ExtractSlice x) result) ts typed)
+    (spelled_value x.source_type (passes_first is_spelled_type x.source_type (result ∷ []) v.spelled)) value s.results
 fits_kind scope (InsertSlice x) operands defines result place ts v has typed =
     let s = sound scope (op_by (InsertSlice x) operands defines result place) v in
     let value = spelled_value result (sound_result scope (op_by (InsertSlice x) operands defines result place) v has).spelled in
-    insert_fits scope x operands result ts (plain (typing_of (InsertSlice x) result) ts typed) (spelled_value x.source_type (passes_first is_spelled_type x.source_type (result ∷ []) v.spelled)) value s.operands
+    insert_fits scope x operands result ts (plain (typing_of (InsertSlice x) result) ts typed)
+    (spelled_value x.source_type (passes_first is_spelled_type x.source_type (result ∷ []) v.spelled)) value s.operands
 fits_kind scope (CollapseShape x) operands defines result place ts v has typed =
     let s = sound scope (op_by (CollapseShape x) operands defines result place) v in
     let value = spelled_value result (sound_result scope (op_by (CollapseShape x) operands defines result place) v has).spelled in
-    collapse_fits scope x operands result ts (plain (typing_of (CollapseShape x) result) ts typed) (spelled_value x.source_type (passes_first is_spelled_type x.source_type (result ∷ []) v.spelled)) value s.results
+    collapse_fits scope x operands result ts (plain (typing_of (CollapseShape x) result) ts typed)
+    (spelled_value x.source_type (passes_first is_spelled_type x.source_type (result ∷ []) v.spelled)) value s.results
 fits_kind scope (ExpandShape x) operands defines result place ts v has typed =
     let s = sound scope (op_by (ExpandShape x) operands defines result place) v in
     let value = spelled_value result (sound_result scope (op_by (ExpandShape x) operands defines result place) v has).spelled in
-    expand_fits scope x operands result ts (plain (typing_of (ExpandShape x) result) ts typed) (spelled_value x.source_type (passes_first is_spelled_type x.source_type (result ∷ []) v.spelled)) value s.results
+    expand_fits scope x operands result ts (plain (typing_of (ExpandShape x) result) ts typed)
+    (spelled_value x.source_type (passes_first is_spelled_type x.source_type (result ∷ []) v.spelled)) value s.results
 fits_kind scope (Fill x) operands defines result place ts v has typed =
     let s = sound scope (op_by (Fill x) operands defines result place) v in
     let value = spelled_value result (sound_result scope (op_by (Fill x) operands defines result place) v has).spelled in
@@ -177,12 +196,14 @@ fits_kind scope (Reduce x) operands defines result place ts v has typed =
     let s = sound scope (op_by (Reduce x) operands defines result place) v in
     let value = spelled_value result (sound_result scope (op_by (Reduce x) operands defines result place) v has).spelled in
     let values = typing_values (Reduce x) result has v.spelled in
-    reduce_fits scope x operands result ts (reduce_region scope x operands defines result place v) typed values value s.dims (counts_reduce x operands s.counts) s.results
+    reduce_fits scope x operands result ts (reduce_region scope x operands defines result place v) typed values value s.dims
+    (counts_reduce x operands s.counts) s.results
 fits_kind scope (Generic x) operands defines result place ts v has typed =
     let s = sound scope (op_by (Generic x) operands defines result place) v in
     let value = spelled_value result (sound_result scope (op_by (Generic x) operands defines result place) v has).spelled in
     let values = typing_values (Generic x) result has v.spelled in
-    generic_fits scope x operands result ts (generic_region scope x operands defines result place v) typed values value s.loops s.maps s.counts s.results
+    generic_fits scope x operands result ts
+    (generic_region scope x operands defines result place v) typed values value s.loops s.maps s.counts s.results
 fits_kind scope (Sharding x) operands defines result place ts v has typed = absurd has
 fits_kind scope (Shard x) operands defines result place ts v has typed = absurd has
 fits_kind scope (AllGather x) operands defines result place ts v has typed = absurd has
@@ -201,14 +222,16 @@ fits_kind scope (Return x) operands defines result place ts v has typed = absurd
 -- ---- few cells
 
 -- a shape that has the extents of a type which knows all of them is the type's
-pub extents_are : (dims : List Dim) (shape : List ℕ) → list_any differs dims ≡ false → have_extents dims shape ≡ true → map (λ n. Known n) shape ≡ dims
+pub extents_are : (dims : List Dim) (shape : List ℕ) → list_any differs dims ≡ false → have_extents dims shape ≡ true
+    → map (λ n. Known n) shape ≡ dims
 extents_are [] [] known h = refl
 extents_are [] (n ∷ shape) known h = absurd (cc)
 extents_are (d ∷ dims) [] known h = absurd (cc)
 extents_are (Differs ∷ dims) (n ∷ shape) known h = absurd (cc)
 extents_are (Known m ∷ dims) (n ∷ shape) known h =
     let same = equal_by m n (both_left (m == n) (have_extents dims shape) h) in
-    ap₂ ◌∷◌ (ap (λ k. Known k) (sym same)) (extents_are dims shape (neither_right false (list_any differs dims) known) (both_right (m == n) (have_extents dims shape) h))
+    ap₂ ◌∷◌ (ap (λ k. Known k) (sym same)) (extents_are dims shape (neither_right false (list_any differs dims) known)
+    (both_right (m == n) (have_extents dims shape) h))
 
 counted_shape : (shape : List ℕ) → map counted_dim (map (λ n. Known n) shape) ≡ map (λ n. max n 1) shape
 counted_shape [] = refl
@@ -218,7 +241,8 @@ few_shape : (result : ValueType) (shape : List ℕ) → IsSoundResult result →
 unfolding has_few_cells
 few_shape result shape sound h =
     let dims = extents_are (dims_of result) shape sound.known h in
-    let cells : counted_cells_of result ≤ max_cells = let small : nat_le (counted_cells_of result) max_cells ≡ true = sound.small in grind (arith, nat_tests) in
+    let cells : counted_cells_of result ≤ max_cells = let small : nat_le (counted_cells_of result) max_cells ≡ true = sound.small in grind
+    (arith, nat_tests) in
     let same : map counted_dim (dims_of result) ≡ map (λ n. max n 1) shape = ap (map counted_dim) (sym dims) ∙ counted_shape shape in
     subst (λ ns. cell_count ns ≤ max_cells) same cells
 
@@ -234,10 +258,13 @@ few_given : (op : Op) (ts : List TensorValue) → IsSoundResult op.result → If
 unfolding shape_given
 few_given op ts sound = go (have_all_extents (typing_of op.kind op.result) (shapes_of ts))
   where
-    few : IfSome (option_and_then (of_dims (dims_of op.result)) (option_and_then (λ (x : Giving). x.shape (shapes_of ts)) (giving op.kind op.operands op.result alone))) IsFew
+    few : IfSome (option_and_then (of_dims (dims_of op.result))
+        (option_and_then (λ (x : Giving). x.shape (shapes_of ts)) (giving op.kind op.operands op.result alone))) IsFew
     few = few_of op.result (option_and_then (λ (x : Giving). x.shape (shapes_of ts)) (giving op.kind op.operands op.result alone)) sound
 
-    go : (b : Bool) → IfSome (if b then option_and_then (of_dims (dims_of op.result)) (option_and_then (λ (x : Giving). x.shape (shapes_of ts)) (giving op.kind op.operands op.result alone)) else None) IsFew
+    go : (b : Bool)
+        → IfSome (if b then option_and_then (of_dims (dims_of op.result))
+        (option_and_then (λ (x : Giving). x.shape (shapes_of ts)) (giving op.kind op.operands op.result alone)) else None) IsFew
     go true = few
     go false = tt
 
@@ -247,7 +274,8 @@ few_dims t h = let short : nat_le (rank_of t) max_rank ≡ true = h in grind (ar
 
 -- ---- an operation can be evaluated
 
-pub can_evaluate : (scope : Scope) (op : Op) (ts : List TensorValue) → IsOfVerifiedOp scope op → HasTensor (class_of op.kind) → AreOfValueTypes (all_types scope op) ts → CanEvaluate op alone ts
+pub can_evaluate : (scope : Scope) (op : Op) (ts : List TensorValue) → IsOfVerifiedOp scope op → HasTensor (class_of op.kind)
+    → AreOfValueTypes (all_types scope op) ts → CanEvaluate op alone ts
 can_evaluate scope op ts v has typed =
     let r = sound_result scope op v has in
     record {

@@ -1,8 +1,7 @@
 -- Creators, element operations, slices and reshapes of verified functions have operands of the widths at which they work.
-use Rattle.std.proofs.Common.{◌≡◌, ℕ, zero, suc, ◌<◌, ◌≤◌, Bool, true, false, List, [], ◌∷◌, map, length, get_or, refl, ap, sym, ◌∙◌, arith, subst}
-use Rattle.std.proofs.lemmas.Bool.Decides.{nat_tests}
+use Rattle.std.proofs.Common.{◌≡◌, ℕ, zero, suc, ◌<◌, true, List, [], ◌∷◌, length, get_or, refl, ap, sym, ◌∙◌, arith, subst}
 use Rattle.std.specs.List.{All, AllByRecursion, list_all}
-use Rattle.std.specs.Prelude.{◌&&◌, ◌^◌, nat_eq, nat_lt}
+use Rattle.std.specs.Prelude.{◌^◌, nat_eq}
 use Rattle.sh_base.specs.Cells.{IsCellOf, bits_of}
 use Rattle.sh_base.specs.declared.numbers.Cell.{Cell}
 use Rattle.sh_base.specs.declared.numbers.Cell.TheVariants.{Undef, Val}
@@ -18,7 +17,6 @@ use Rattle.sh_ir.specs.declared.arith_ops.Constant as declared_constant
 use Rattle.sh_ir.specs.declared.arith_ops.Contents.{Contents}
 use Rattle.sh_ir.specs.declared.arith_ops.Contents.TheVariants.{Held, Broken}
 use Rattle.sh_ir.specs.declared.arith_ops.Select as declared_select
-use Rattle.sh_ir.specs.declared.operations.OpKind.{OpKind}
 use Rattle.sh_ir.specs.declared.operations.OpKind.TheVariants.{Constant, Binary, Compare, Select, Cast, Empty, ExtractSlice, InsertSlice, CollapseShape, ExpandShape}
 use Rattle.sh_ir.specs.declared.tensor_ops.CollapseShape as declared_collapse_shape
 use Rattle.sh_ir.specs.declared.tensor_ops.ExpandShape as declared_expand_shape
@@ -26,7 +24,7 @@ use Rattle.sh_ir.specs.declared.tensor_ops.ExtractSlice as declared_extract_slic
 use Rattle.sh_ir.specs.declared.tensor_ops.InsertSlice as declared_insert_slice
 use Rattle.sh_ir.specs.declared.types.ValueType.{ValueType}
 use Rattle.sh_ir.specs.declared.types.ValueType.TheVariants as value_type
-use Rattle.sh_ir.specs.Agreement.{cell_bits, rank_of, same_bits, same_rank_and_bits}
+use Rattle.sh_ir.specs.Agreement.{cell_bits, same_bits}
 use Rattle.sh_ir.specs.Literals.{are_held, fills, is_held, is_literal_cell}
 use Rattle.sh_ir.specs.Operands.{is_part_of, operands_fit}
 use Rattle.sh_ir.specs.Results.{changes_bits, is_cast, is_slice, result_fits}
@@ -44,7 +42,8 @@ use Rattle.sh_eval.proofs.TypeLaws.{AreOfValueTypes, bits_are, typed_width, type
 -- ---- widths
 
 -- tensors of types of one width
-pub all_of_width : (w : Width) (types : List ValueType) (ts : List TensorValue) → AreOfValueTypes types ts → AllByRecursion (λ t. width_of t ≡ w) types → AllByRecursion (λ (t : TensorValue). t.width ≡ w) ts
+pub all_of_width : (w : Width) (types : List ValueType) (ts : List TensorValue) → AreOfValueTypes types ts
+    → AllByRecursion (λ t. width_of t ≡ w) types → AllByRecursion (λ (t : TensorValue). t.width ≡ w) ts
 all_of_width w [] [] h same = tt
 all_of_width w [] (t ∷ ts) h same = absurd h
 all_of_width w (type ∷ types) [] h same = absurd h
@@ -62,7 +61,8 @@ can_by_bits Extsi m n v w from to h = let l = below_by m n h in omega (arith, fr
 can_by_bits Extui m n v w from to h = let l = below_by m n h in omega (arith, from, to, l)
 can_by_bits Trunci m n v w from to h = let l = below_by n m h in omega (arith, from, to, l)
 
-pub can_cast : (op : CastOp) (t u : ValueType) → has_value t ≡ true → has_value u ≡ true → changes_bits op (cell_bits t) (cell_bits u) ≡ true → CanCast op (width_of t) (width_of u)
+pub can_cast : (op : CastOp) (t u : ValueType) → has_value t ≡ true → has_value u ≡ true
+    → changes_bits op (cell_bits t) (cell_bits u) ≡ true → CanCast op (width_of t) (width_of u)
 can_cast op t u a b h = can_by_bits op (cell_bits t) (cell_bits u) (width_of t) (width_of u) (bits_are t a) (bits_are u b) h
 
 -- ---- literals
@@ -81,12 +81,14 @@ cells_held w (c ∷ cells) h = go (cells_held w cells (both_right (is_literal_ce
 
 type_held : (t : ValueType) (cells : List Cell) → are_held t cells ≡ true → All (IsCellOf (width_of t)) cells
 type_held (value_type.Scalar w) cells h = cells_held w cells (both_right (nat_eq (length cells) 1) (list_all (is_literal_cell w) cells) h)
-type_held (value_type.Tensor t) cells h = cells_held t.width cells (both_right (fills t.dims cells) (list_all (is_literal_cell t.width) cells) h)
+type_held (value_type.Tensor t) cells h =
+    cells_held t.width cells (both_right (fills t.dims cells) (list_all (is_literal_cell t.width) cells) h)
 type_held value_type.Nothing cells h = absurd (cc)
 type_held value_type.Sharding cells h = absurd (cc)
 type_held value_type.Index cells h = absurd (cc)
 
-contents_held : (t : ValueType) (contents : Contents) → is_held (record { value_type = t; contents = contents }) ≡ true → HoldsCellsOf (width_of t) contents
+contents_held : (t : ValueType) (contents : Contents) → is_held (record { value_type = t; contents = contents }) ≡ true
+    → HoldsCellsOf (width_of t) contents
 contents_held t Broken h = tt
 contents_held t (Held cells) h = type_held t cells h
 
@@ -95,7 +97,8 @@ constant_held x h = contents_held x.value_type x.contents h
 
 -- ---- creators
 
-pub constant_fits : (x : declared_constant.Constant) (operands : List ℕ) (result : ValueType) (ts : List TensorValue) → is_held x ≡ true → result ≡ x.value_type → FitsKind (Constant x) operands result ts
+pub constant_fits : (x : declared_constant.Constant) (operands : List ℕ) (result : ValueType) (ts : List TensorValue) → is_held x ≡ true
+    → result ≡ x.value_type → FitsKind (Constant x) operands result ts
 unfolding FitsKind
 constant_fits x operands result ts held is = subst (λ t. HoldsCellsOf (width_of t) x.contents) (sym is) (constant_held x held)
 
@@ -105,20 +108,25 @@ empty_fits operands result ts = tt
 
 -- ---- element operations
 
-pub binary_fits : (x : BinOp) (operands : List ℕ) (result : ValueType) (ts : List TensorValue) → AreOfValueTypes (typing_of (Binary x) result) ts → FitsKind (Binary x) operands result ts
+pub binary_fits : (x : BinOp) (operands : List ℕ) (result : ValueType) (ts : List TensorValue)
+    → AreOfValueTypes (typing_of (Binary x) result) ts → FitsKind (Binary x) operands result ts
 unfolding FitsKind
 binary_fits x operands result ts typed = typed_widths (typing_of (Binary x) result) ts typed
 
-pub compare_fits : (x : declared_compare.Compare) (operands : List ℕ) (result : ValueType) (ts : List TensorValue) → AreOfValueTypes (typing_of (Compare x) result) ts → has_value x.operand_type ≡ true
+pub compare_fits : (x : declared_compare.Compare) (operands : List ℕ) (result : ValueType) (ts : List TensorValue)
+    → AreOfValueTypes (typing_of (Compare x) result) ts → has_value x.operand_type ≡ true
     → result ≡ test_type x.operand_type → FitsKind (Compare x) operands result ts
 unfolding FitsKind
-compare_fits x operands result ts typed value is = (typed_widths (typing_of (Compare x) result) ts typed, ap width_of is ∙ test_width x.operand_type value)
+compare_fits x operands result ts typed value is =
+    (typed_widths (typing_of (Compare x) result) ts typed, ap width_of is ∙ test_width x.operand_type value)
 
-pub select_fits : (x : declared_select.Select) (operands : List ℕ) (result : ValueType) (ts : List TensorValue) → AreOfValueTypes (typing_of (Select x) result) ts → FitsKind (Select x) operands result ts
+pub select_fits : (x : declared_select.Select) (operands : List ℕ) (result : ValueType) (ts : List TensorValue)
+    → AreOfValueTypes (typing_of (Select x) result) ts → FitsKind (Select x) operands result ts
 unfolding FitsKind
 select_fits x operands result ts typed = typed_widths (typing_of (Select x) result) ts typed
 
-pub cast_fits : (scope : Scope) (x : declared_cast.Cast) (operands : List ℕ) (result : ValueType) (ts : List TensorValue) → AreOfValueTypes (typing_of (Cast x) result) ts → has_value x.operand_type ≡ true
+pub cast_fits : (scope : Scope) (x : declared_cast.Cast) (operands : List ℕ) (result : ValueType) (ts : List TensorValue)
+    → AreOfValueTypes (typing_of (Cast x) result) ts → has_value x.operand_type ≡ true
     → has_value result ≡ true → result_fits scope (Cast x) result ≡ true → FitsKind (Cast x) operands result ts
 unfolding FitsKind result_fits is_cast
 cast_fits scope x operands result ts typed from to fits =
@@ -126,26 +134,38 @@ cast_fits scope x operands result ts typed from to fits =
 
 -- ---- slices and reshapes
 
-one_source : (source result : ValueType) (ts : List TensorValue) → AreOfValueTypes (source ∷ []) ts → has_value source ≡ true → has_value result ≡ true → same_bits source result ≡ true → HaveWidth result ts
-one_source source result ts typed a b same = all_of_width (width_of result) (source ∷ []) ts typed (width_by_bits source result a b same, tt)
+one_source : (source result : ValueType) (ts : List TensorValue) → AreOfValueTypes (source ∷ []) ts → has_value source ≡ true
+    → has_value result ≡ true → same_bits source result ≡ true → HaveWidth result ts
+one_source source result ts typed a b same =
+    all_of_width (width_of result) (source ∷ []) ts typed (width_by_bits source result a b same, tt)
 
-pub extract_fits : (scope : Scope) (x : declared_extract_slice.ExtractSlice) (operands : List ℕ) (result : ValueType) (ts : List TensorValue) → AreOfValueTypes (typing_of (ExtractSlice x) result) ts
-    → has_value x.source_type ≡ true → has_value result ≡ true → result_fits scope (ExtractSlice x) result ≡ true → FitsKind (ExtractSlice x) operands result ts
+pub extract_fits : (scope : Scope) (x : declared_extract_slice.ExtractSlice) (operands : List ℕ) (result : ValueType)
+    (ts : List TensorValue) → AreOfValueTypes (typing_of (ExtractSlice x) result) ts
+    → has_value x.source_type ≡ true → has_value result ≡ true → result_fits scope (ExtractSlice x) result ≡ true
+    → FitsKind (ExtractSlice x) operands result ts
 unfolding FitsKind result_fits is_slice typing_of
-extract_fits scope x operands result ts typed from to fits = one_source x.source_type result ts typed from to (both_left _ _ (both_left _ _ fits))
+extract_fits scope x operands result ts typed from to fits =
+    one_source x.source_type result ts typed from to (both_left _ _ (both_left _ _ fits))
 
-pub insert_fits : (scope : Scope) (x : declared_insert_slice.InsertSlice) (operands : List ℕ) (result : ValueType) (ts : List TensorValue) → AreOfValueTypes (typing_of (InsertSlice x) result) ts
-    → has_value x.source_type ≡ true → has_value result ≡ true → operands_fit scope (InsertSlice x) result ≡ true → FitsKind (InsertSlice x) operands result ts
+pub insert_fits : (scope : Scope) (x : declared_insert_slice.InsertSlice) (operands : List ℕ) (result : ValueType) (ts : List TensorValue)
+    → AreOfValueTypes (typing_of (InsertSlice x) result) ts
+    → has_value x.source_type ≡ true → has_value result ≡ true → operands_fit scope (InsertSlice x) result ≡ true
+    → FitsKind (InsertSlice x) operands result ts
 unfolding FitsKind operands_fit is_part_of typing_of
 insert_fits scope x operands result ts typed from to fits =
-    all_of_width (width_of result) (x.source_type ∷ result ∷ []) ts typed (width_by_bits x.source_type result from to (both_left _ _ (both_left _ _ fits)), (refl, tt))
+    all_of_width (width_of result) (x.source_type ∷ result ∷ []) ts typed
+    (width_by_bits x.source_type result from to (both_left _ _ (both_left _ _ fits)), (refl, tt))
 
-pub collapse_fits : (scope : Scope) (x : declared_collapse_shape.CollapseShape) (operands : List ℕ) (result : ValueType) (ts : List TensorValue) → AreOfValueTypes (typing_of (CollapseShape x) result) ts
-    → has_value x.source_type ≡ true → has_value result ≡ true → result_fits scope (CollapseShape x) result ≡ true → FitsKind (CollapseShape x) operands result ts
+pub collapse_fits : (scope : Scope) (x : declared_collapse_shape.CollapseShape) (operands : List ℕ) (result : ValueType)
+    (ts : List TensorValue) → AreOfValueTypes (typing_of (CollapseShape x) result) ts
+    → has_value x.source_type ≡ true → has_value result ≡ true → result_fits scope (CollapseShape x) result ≡ true
+    → FitsKind (CollapseShape x) operands result ts
 unfolding FitsKind result_fits typing_of
 collapse_fits scope x operands result ts typed from to fits = one_source x.source_type result ts typed from to (both_left _ _ fits)
 
-pub expand_fits : (scope : Scope) (x : declared_expand_shape.ExpandShape) (operands : List ℕ) (result : ValueType) (ts : List TensorValue) → AreOfValueTypes (typing_of (ExpandShape x) result) ts
-    → has_value x.source_type ≡ true → has_value result ≡ true → result_fits scope (ExpandShape x) result ≡ true → FitsKind (ExpandShape x) operands result ts
+pub expand_fits : (scope : Scope) (x : declared_expand_shape.ExpandShape) (operands : List ℕ) (result : ValueType) (ts : List TensorValue)
+    → AreOfValueTypes (typing_of (ExpandShape x) result) ts
+    → has_value x.source_type ≡ true → has_value result ≡ true → result_fits scope (ExpandShape x) result ≡ true
+    → FitsKind (ExpandShape x) operands result ts
 unfolding FitsKind result_fits typing_of
 expand_fits scope x operands result ts typed from to fits = one_source x.source_type result ts typed from to (both_left _ _ fits)

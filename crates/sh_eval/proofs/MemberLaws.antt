@@ -1,6 +1,6 @@
 -- What holds of all parts of a list holds of each.
 use Rattle.std.proofs.Common.{◌≡◌, ℕ, zero, suc, Bool, true, List, [], ◌∷◌, ◌++◌, map, Option, Some, None, refl, subst}
-use Rattle.std.specs.Prelude.{◌&&◌, MatchOption, ⊤, flat_map, filter_map, slice_get}
+use Rattle.std.specs.Prelude.{MatchOption, ⊤, flat_map, filter_map, slice_get}
 use Rattle.std.proofs.lemmas.Option.{none-some, same_Some}
 use Rattle.std.specs.List.{AllByRecursion, cons_option, list_all}
 use Rattle.sh_loops.proofs.InsideLaws.{both_left, both_right}
@@ -27,7 +27,8 @@ module _ {X : Type 0} (P : X → Type 0) where
   at_place (y ∷ xs) zero x h e = subst P (same_Some y x e) h.0
   at_place (y ∷ xs) (suc k) x h e = at_place xs k x h.1 e
 
-  pub each_list : {Y : Type 0} (f : Y → List X) (ys : List Y) → AllByRecursion P (flat_map f ys) → AllByRecursion (λ y. AllByRecursion P (f y)) ys
+  pub each_list : {Y : Type 0} (f : Y → List X) (ys : List Y) → AllByRecursion P (flat_map f ys)
+      → AllByRecursion (λ y. AllByRecursion P (f y)) ys
   each_list f [] h = tt
   each_list f (y ∷ ys) h = (of_front (f y) (flat_map f ys) h, each_list f ys (of_back (f y) (flat_map f ys) h))
 
@@ -35,15 +36,18 @@ module _ {X : Type 0} (P : X → Type 0) where
   each_mapped f [] h = tt
   each_mapped f (y ∷ ys) h = (h.0, each_mapped f ys h.1)
 
-  pub each_chosen : {Y : Type 0} (f : Y → Option X) (ys : List Y) → AllByRecursion P (filter_map f ys) → AllByRecursion (λ y. MatchOption (f y) ⊤ P) ys
+  pub each_chosen : {Y : Type 0} (f : Y → Option X) (ys : List Y) → AllByRecursion P (filter_map f ys)
+      → AllByRecursion (λ y. MatchOption (f y) ⊤ P) ys
   each_chosen f [] h = tt
   each_chosen f (y ∷ ys) h = go (f y) (each_chosen f ys) h
     where
-      go : (o : Option X) → (AllByRecursion P (filter_map f ys) → AllByRecursion (λ z. MatchOption (f z) ⊤ P) ys) → AllByRecursion P (cons_option o (filter_map f ys))
+      go : (o : Option X) → (AllByRecursion P (filter_map f ys) → AllByRecursion (λ z. MatchOption (f z) ⊤ P) ys)
+          → AllByRecursion P (cons_option o (filter_map f ys))
           → MatchOption o ⊤ P × AllByRecursion (λ z. MatchOption (f z) ⊤ P) ys
       go None rest h = (tt, rest h)
       go (Some x) rest h = (h.0, rest h.1)
 
-pub all_both : {X : Type 0} (P Q R : X → Type 0) (xs : List X) → ((x : X) → P x → Q x → R x) → AllByRecursion P xs → AllByRecursion Q xs → AllByRecursion R xs
+pub all_both : {X : Type 0} (P Q R : X → Type 0) (xs : List X) → ((x : X) → P x → Q x → R x) → AllByRecursion P xs → AllByRecursion Q xs
+    → AllByRecursion R xs
 all_both P Q R [] both h k = tt
 all_both P Q R (x ∷ xs) both h k = (both x h.0 k.0, all_both P Q R xs both h.1 k.1)

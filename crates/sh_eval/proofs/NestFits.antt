@@ -1,30 +1,25 @@
 -- Structured operations of verified functions can be folded on their operands: what the rules say of their loops, maps and widths.
-use Rattle.std.proofs.Common.{◌≡◌, ◌≢◌, ℕ, zero, suc, ◌+◌, ◌<◌, ◌≤◌, Bool, true, false, List, [], ◌∷◌, ◌++◌, map, length, take, drop, Some, refl, ap, ap₂, sym, ◌∙◌, arith, subst, add-one, inl, inr}
-use Rattle.std.proofs.lemmas.Bool.{cases_Bool}
+use Rattle.std.proofs.Common.{◌≡◌, ℕ, zero, suc, ◌+◌, ◌≤◌, true, List, [], ◌∷◌, ◌++◌, map, length, take, drop, refl, ap, ap₂, sym, ◌∙◌, arith, subst, add-one}
 use Rattle.std.proofs.lemmas.Bool.Decides.{nat_tests}
-use Rattle.std.specs.List.{AllByRecursion, list_all, list_any, range_with_len, position_or_len}
-use Rattle.std.specs.Prelude.{◌&&◌, ◌||◌, filter, nat_eq, nat_le, nat_lt, not, ℤ}
+use Rattle.std.specs.List.{AllByRecursion, list_all}
+use Rattle.std.specs.Prelude.{◌&&◌, nat_le, nat_lt}
 use Rattle.sh_base.specs.Cells.{bits_of}
 use Rattle.sh_base.specs.Shape.{max_rank}
 use Rattle.sh_base.specs.declared.numbers.Width.{Width}
 use Rattle.sh_ir.specs.declared.linalg_ops.InsOuts.{InsOuts}
 use Rattle.sh_ir.specs.declared.types.ValueType.{ValueType}
-use Rattle.sh_ir.specs.Agreement.{cell_bits, dims_of, is_tensor, rank_of, same_bits, shapes_agree, types_agree}
-use Rattle.sh_ir.specs.Loops.{LoopMap, Structure, copied, copy, identity_map, product, product_added, single, unlisted}
-use Rattle.sh_ir.specs.Operands.{all_of_bits, can_multiply}
-use Rattle.sh_ir.specs.Regions.{is_among}
+use Rattle.sh_ir.specs.Agreement.{cell_bits, dims_of, is_tensor, same_bits, shapes_agree, types_agree}
+use Rattle.sh_ir.specs.Loops.{Structure, single}
 use Rattle.sh_ir.specs.Results.{has_output_type}
 use Rattle.sh_ir.specs.Typing.{operand_types}
-use Rattle.sh_ir.specs.Written.{first_type}
 use Rattle.sh_loops.specs.Nests.{all_follow_loops, follows_loops}
 use Rattle.sh_loops.specs.Structured.{CanNest, FitsStep, widths_of}
-use Rattle.sh_loops.proofs.InsideLaws.{below_by, both_left, both_right}
+use Rattle.sh_loops.proofs.InsideLaws.{both_left, both_right}
 use Rattle.sh_sem.specs.Given.{outs_of}
 use Rattle.sh_sem.specs.Nest.{maps_of}
 use Rattle.sh_sem.specs.Scalars.{width_of}
 use Rattle.sh_tensor.specs.Tensor.{TensorValue}
 use Rattle.sh_eval.specs.Sources.{has_value}
-use Rattle.sh_eval.proofs.RuleFacts.{OneOutput, all_back, all_front}
 use Rattle.sh_eval.proofs.TypeLaws.{AreOfValueTypes, bits_are, typed_width, typed_widths, width_by_bits}
 
 -- ---- the widths of inputs, output and scalars
@@ -34,9 +29,11 @@ record HaveParts (n : ℕ) (ins : List ValueType) (out : ValueType) (more : List
   output : AllByRecursion (λ (t : TensorValue). t.width ≡ width_of out) (take 1 (drop n ts))
   scalars : widths_of (drop (suc n) ts) ≡ map width_of more
 
-have_parts : (n : ℕ) (ins : List ValueType) (out : ValueType) (more : List ValueType) (ts : List TensorValue) → n ≡ length ins → AreOfValueTypes (ins ++ out ∷ more) ts → HaveParts n ins out more ts
+have_parts : (n : ℕ) (ins : List ValueType) (out : ValueType) (more : List ValueType) (ts : List TensorValue) → n ≡ length ins
+    → AreOfValueTypes (ins ++ out ∷ more) ts → HaveParts n ins out more ts
 have_parts zero [] out more [] long h = absurd h
-have_parts zero [] out more (t ∷ ts) long h = record { inputs = refl; output = (typed_width out t h.0, tt); scalars = typed_widths more ts h.1 }
+have_parts zero [] out more (t ∷ ts) long h =
+    record { inputs = refl; output = (typed_width out t h.0, tt); scalars = typed_widths more ts h.1 }
 have_parts (suc n) [] out more ts long h = absurd (omega (arith, long))
 have_parts zero (type ∷ ins) out more ts long h = absurd (omega (arith, long))
 have_parts (suc n) (type ∷ ins) out more [] long h = absurd h
@@ -54,8 +51,10 @@ pub record IsNestOf (s : Structure) (result : ValueType) : Type 0 where
   pub few : s.loops ≤ max_rank
   pub follow : all_follow_loops s.loops (maps_of s) ≡ true
 
-pub can_nest : (s : Structure) (operands : List ℕ) (result : ValueType) (more : List ValueType) (ts : List TensorValue) → IsNestOf s result → AreOfValueTypes (operand_types s.ins_outs ++ more) ts
-    → FitsStep s.step (map width_of s.ins_outs.ins_types) (width_of result) (drop (length s.inputs + 1) operands) (map width_of more) → CanNest s operands (width_of result) ts
+pub can_nest : (s : Structure) (operands : List ℕ) (result : ValueType) (more : List ValueType) (ts : List TensorValue) → IsNestOf s result
+    → AreOfValueTypes (operand_types s.ins_outs ++ more) ts
+    → FitsStep s.step (map width_of s.ins_outs.ins_types) (width_of result) (drop (length s.inputs + 1) operands) (map width_of more)
+    → CanNest s operands (width_of result) ts
 can_nest s operands result more ts is typed step =
     let n = length s.inputs in
     let types : List ValueType = s.ins_outs.ins_types in
@@ -77,11 +76,13 @@ can_nest s operands result more ts is typed step =
 
 -- ---- the output's type
 
-pub output_width : (x : InsOuts) (out result : ValueType) → x.outs_types ≡ out ∷ [] → has_value out ≡ true → has_value result ≡ true → has_output_type x.outs_types result ≡ true → width_of out ≡ width_of result
+pub output_width : (x : InsOuts) (out result : ValueType) → x.outs_types ≡ out ∷ [] → has_value out ≡ true → has_value result ≡ true
+    → has_output_type x.outs_types result ≡ true → width_of out ≡ width_of result
 unfolding types_agree
 output_width x out result outs a b h =
     let agree : types_agree out result ≡ true = subst (λ ts. has_output_type ts result ≡ true) outs h in
-    let bits = both_left (same_bits out result) (shapes_agree (dims_of out) (dims_of result)) (both_right (is_tensor out && is_tensor result) (same_bits out result && shapes_agree (dims_of out) (dims_of result)) agree) in
+    let bits = both_left (same_bits out result) (shapes_agree (dims_of out) (dims_of result))
+    (both_right (is_tensor out && is_tensor result) (same_bits out result && shapes_agree (dims_of out) (dims_of result)) agree) in
     width_by_bits out result a b bits
 
 -- ---- maps
@@ -95,20 +96,27 @@ single_follows n (l ∷ loops) h =
 
 -- ---- steps
 
-pub widths_not_more : (out : ValueType) (w : Width) (ins : List ValueType) → has_value out ≡ true → width_of out ≡ w → list_all has_value ins ≡ true
+pub widths_not_more : (out : ValueType) (w : Width) (ins : List ValueType) → has_value out ≡ true → width_of out ≡ w
+    → list_all has_value ins ≡ true
     → list_all (λ t. nat_le (cell_bits t) (cell_bits out)) ins ≡ true → AllByRecursion (λ v. bits_of v ≤ bits_of w) (map width_of ins)
 widths_not_more out w [] value same values h = tt
 widths_not_more out w (t ∷ ins) value same values h =
     let le = both_left (nat_le (cell_bits t) (cell_bits out)) (list_all (λ u. nat_le (cell_bits u) (cell_bits out)) ins) h in
     let mine = bits_are t (both_left (has_value t) (list_all has_value ins) values) in
     let its : cell_bits out ≡ bits_of w = bits_are out value ∙ ap bits_of same in
-    let below : cell_bits t ≤ cell_bits out = grind (arith, nat_tests) in
-    (omega (arith, mine, its, below), widths_not_more out w ins value same (both_right (has_value t) (list_all has_value ins) values) (both_right (nat_le (cell_bits t) (cell_bits out)) (list_all (λ u. nat_le (cell_bits u) (cell_bits out)) ins) h))
+    let below : cell_bits t ≤ cell_bits out = grind (arith, nat_tests) in (
+      omega (arith, mine, its, below),
+      widths_not_more out w ins value same (both_right (has_value t) (list_all has_value ins) values)
+          (both_right (nat_le (cell_bits t) (cell_bits out)) (list_all (λ u. nat_le (cell_bits u) (cell_bits out)) ins) h),
+    )
 
-pub widths_alike : (out : ValueType) (w : Width) (ins : List ValueType) → has_value out ≡ true → width_of out ≡ w → list_all has_value ins ≡ true → list_all (same_bits out) ins ≡ true
+pub widths_alike : (out : ValueType) (w : Width) (ins : List ValueType) → has_value out ≡ true → width_of out ≡ w
+    → list_all has_value ins ≡ true → list_all (same_bits out) ins ≡ true
     → AllByRecursion (λ v. v ≡ w) (map width_of ins)
 widths_alike out w [] value same values h = tt
 widths_alike out w (t ∷ ins) value same values h = (
-  sym (width_by_bits out t value (both_left (has_value t) (list_all has_value ins) values) (both_left (same_bits out t) (list_all (same_bits out) ins) h)) ∙ same,
-  widths_alike out w ins value same (both_right (has_value t) (list_all has_value ins) values) (both_right (same_bits out t) (list_all (same_bits out) ins) h),
+  sym (width_by_bits out t value (both_left (has_value t) (list_all has_value ins) values)
+      (both_left (same_bits out t) (list_all (same_bits out) ins) h)) ∙ same,
+  widths_alike out w ins value same (both_right (has_value t) (list_all has_value ins) values)
+      (both_right (same_bits out t) (list_all (same_bits out) ins) h),
 )

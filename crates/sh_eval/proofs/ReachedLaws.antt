@@ -1,9 +1,8 @@
 -- Operations of a verified function that are reached have their operands, and can be evaluated on them.
-use Rattle.std.proofs.Common.{◌≡◌, ℕ, zero, suc, ◌≤◌, Bool, true, false, List, [], ◌∷◌, ◌++◌, map, length, take, Option, Some, None, refl, ap, sym, ◌∙◌, arith, subst, inl, inr}
-use Rattle.std.proofs.lemmas.Bool.Decides.{nat_tests}
+use Rattle.std.proofs.Common.{◌≡◌, ℕ, zero, suc, ◌≤◌, Bool, true, false, List, [], ◌∷◌, map, length, take, Option, Some, None, refl, ap, sym, ◌∙◌, arith, subst, inl, inr}
 use Rattle.std.proofs.lemmas.Option.{none-some, same_Some}
 use Rattle.std.specs.List.{list_all}
-use Rattle.std.specs.Prelude.{◌⊎◌, IfSome, IsSome, if◌then◌else◌, nat_le, option_and_then, slice_get}
+use Rattle.std.specs.Prelude.{◌⊎◌, IfSome, IsSome, if◌then◌else◌, option_and_then, slice_get}
 use Rattle.sh_base.specs.Shape.{max_rank}
 use Rattle.sh_ir.specs.declared.calls.Call as declared_call
 use Rattle.sh_ir.specs.declared.functions.Func.{Func}
@@ -14,7 +13,7 @@ use Rattle.sh_ir.specs.declared.operations.Return as declared_return
 use Rattle.sh_ir.specs.declared.shard_ops.Shard as declared_shard
 use Rattle.sh_ir.specs.declared.types.RawSharding as declared_sharding
 use Rattle.sh_ir.specs.declared.types.ValueType.{ValueType}
-use Rattle.sh_ir.specs.Agreement.{dims_of, rank_of}
+use Rattle.sh_ir.specs.Agreement.{dims_of}
 use Rattle.sh_ir.specs.Classes.{class_of}
 use Rattle.sh_ir.specs.Formed.{ResultFits, types_in}
 use Rattle.sh_ir.specs.Limits.{has_few_dims}
@@ -28,33 +27,36 @@ use Rattle.sh_sem.specs.Given.{Giving, alone, given, giving, have_all_extents, o
 use Rattle.sh_sem.specs.Meaning.{Values, after_class}
 use Rattle.sh_tensor.specs.Tensor.{TensorValue}
 use Rattle.sh_turns.specs.Program.{all_there}
-use Rattle.sh_eval.specs.Evaluations.{CanEvaluate, FitsKind, kind_value}
+use Rattle.sh_eval.specs.Evaluations.{CanEvaluate, FitsKind}
 use Rattle.sh_eval.specs.Reached.{IsReached, values_behind}
 use Rattle.sh_eval.specs.Sources.{HaveTypes, IsOfValueType}
 use Rattle.sh_eval.specs.Values.{IsFew, shapes_of}
 use Rattle.sh_eval.specs.VerifiedOps.{HasTensor, IsOfVerifiedOp}
-use Rattle.sh_eval.proofs.EvaluationLaws.{default_value, given_apart}
 use Rattle.sh_eval.proofs.Evaluable.{can_evaluate, few_dims}
 use Rattle.sh_eval.proofs.OperandLaws.{all_types, operands_there}
 use Rattle.sh_eval.proofs.ResultTypes.{result_typed}
 use Rattle.sh_eval.proofs.RuleFacts.{passes_first, passes_last, sound}
 use Rattle.sh_eval.proofs.SourceOps.{source_op}
-use Rattle.sh_eval.proofs.TypeLaws.{AreOfValueTypes, Found}
+use Rattle.sh_eval.proofs.TypeLaws.{AreOfValueTypes}
 use Rattle.sh_eval.proofs.TypingLaws.{args_typed, call_gives, none_given, typed_after}
 
 -- ---- the values before an operation are of their types
 
-types_at : (scope : Scope) (ops : List Op) (k : ℕ) (values after : Values) → ((j : ℕ) (op : Op) → slice_get ops j ≡ Some op → IsOfVerifiedOp (scope_behind scope (take j ops)) op) → HaveTypes scope.values values
+types_at : (scope : Scope) (ops : List Op) (k : ℕ) (values after : Values)
+    → ((j : ℕ) (op : Op) → slice_get ops j ≡ Some op → IsOfVerifiedOp (scope_behind scope (take j ops)) op) → HaveTypes scope.values values
     → values_behind (take k ops) values ≡ Some after → HaveTypes (scope_behind scope (take k ops)).values after
 types_at scope ops zero values after verified have h = subst (HaveTypes scope.values) (same_Some values after h) have
 types_at scope [] (suc k) values after verified have h = subst (HaveTypes scope.values) (same_Some values after h) have
 types_at scope (op ∷ ops) (suc k) values after verified have h =
     go (after_class (class_of op.kind) op values) refl
-    (λ next e rest. types_at (scope_after scope op) ops k next after (λ j other is. verified (suc j) other is) (typed_after scope op values next (verified 0 op refl) have e) rest) h
+    (λ next e rest. types_at (scope_after scope op) ops k next after (λ j other is. verified (suc j) other is)
+    (typed_after scope op values next (verified 0 op refl) have e) rest) h
   where
     go : (o : Option Values) → after_class (class_of op.kind) op values ≡ o
-        → ((next : Values) → after_class (class_of op.kind) op values ≡ Some next → values_behind (take k ops) next ≡ Some after → HaveTypes (scope_behind (scope_after scope op) (take k ops)).values after)
-        → option_and_then (values_behind (take k ops)) o ≡ Some after → HaveTypes (scope_behind (scope_after scope op) (take k ops)).values after
+        → ((next : Values) → after_class (class_of op.kind) op values ≡ Some next → values_behind (take k ops) next ≡ Some after → HaveTypes
+        (scope_behind (scope_after scope op) (take k ops)).values after)
+        → option_and_then (values_behind (take k ops)) o ≡ Some after
+        → HaveTypes (scope_behind (scope_after scope op) (take k ops)).values after
     go None e rest f = absurd (none-some after f)
     go (Some next) e rest f = rest next e f
 
@@ -70,11 +72,13 @@ typed_there f arguments op values r =
       scope = scope_behind (scope_of m f) (take r.place f.ops);
       verified = source_op f r.verified r.place op r.stands;
       have =
-          types_at (scope_of m f) f.ops r.place (argument_under (map (λ a. a.id) f.args) arguments) values (λ j other e. source_op f r.verified j other e)
+          types_at (scope_of m f) f.ops r.place (argument_under (map (λ a. a.id) f.args) arguments) values
+          (λ j other e. source_op f r.verified j other e)
           (args_typed m f arguments r.typed) r.before;
     }
 
-pub there_where_reached : (f : Func) (arguments : List TensorValue) (op : Op) (values : Values) → IsReached f arguments op values → HasTensor (class_of op.kind) → IsSome (all_there (map values op.operands))
+pub there_where_reached : (f : Func) (arguments : List TensorValue) (op : Op) (values : Values) → IsReached f arguments op values
+    → HasTensor (class_of op.kind) → IsSome (all_there (map values op.operands))
 there_where_reached f arguments op values r has =
     let t = typed_there f arguments op values r in
     let found = operands_there t.scope op values t.verified has t.have in
@@ -82,11 +86,13 @@ there_where_reached f arguments op values r has =
 
 -- ---- operations of source form that give no tensor of their operands
 
-sharding_gives : (x : declared_sharding.RawSharding) (operands : List ℕ) (result : ValueType) → giving (Sharding x) operands result alone ≡ None
+sharding_gives : (x : declared_sharding.RawSharding) (operands : List ℕ) (result : ValueType)
+    → giving (Sharding x) operands result alone ≡ None
 unfolding giving
 sharding_gives x operands result = refl
 
-sharding_fits : (x : declared_sharding.RawSharding) (operands : List ℕ) (result : ValueType) (ts : List TensorValue) → FitsKind (Sharding x) operands result ts
+sharding_fits : (x : declared_sharding.RawSharding) (operands : List ℕ) (result : ValueType) (ts : List TensorValue)
+    → FitsKind (Sharding x) operands result ts
 unfolding FitsKind
 sharding_fits x operands result ts = tt
 
@@ -94,7 +100,8 @@ shard_gives : (x : declared_shard.Shard) (operands : List ℕ) (result : ValueTy
 unfolding giving
 shard_gives x operands result = refl
 
-shard_fits : (x : declared_shard.Shard) (operands : List ℕ) (result : ValueType) (ts : List TensorValue) → FitsKind (Shard x) operands result ts
+shard_fits : (x : declared_shard.Shard) (operands : List ℕ) (result : ValueType) (ts : List TensorValue)
+    → FitsKind (Shard x) operands result ts
 unfolding FitsKind
 shard_fits x operands result ts = tt
 
@@ -106,27 +113,33 @@ return_gives : (x : declared_return.Return) (operands : List ℕ) (result : Valu
 unfolding giving
 return_gives x operands result = refl
 
-return_fits : (x : declared_return.Return) (operands : List ℕ) (result : ValueType) (ts : List TensorValue) → FitsKind (Return x) operands result ts
+return_fits : (x : declared_return.Return) (operands : List ℕ) (result : ValueType) (ts : List TensorValue)
+    → FitsKind (Return x) operands result ts
 unfolding FitsKind
 return_fits x operands result ts = tt
 
 -- the rank of the value's type
-sharding_short : (x : declared_sharding.RawSharding) (result : ValueType) → ResultFits (written_by (Sharding x)).result result → list_all has_few_dims (types_in (written_by (Sharding x)) result) ≡ true → length (dims_of result) ≤ max_rank
+sharding_short : (x : declared_sharding.RawSharding) (result : ValueType) → ResultFits (written_by (Sharding x)).result result
+    → list_all has_few_dims (types_in (written_by (Sharding x)) result) ≡ true → length (dims_of result) ≤ max_rank
 sharding_short x result fits h = subst (λ t. length (dims_of t) ≤ max_rank) (sym fits) (omega arith)
 
-shard_short : (x : declared_shard.Shard) (result : ValueType) → ResultFits (written_by (Shard x)).result result → list_all has_few_dims (types_in (written_by (Shard x)) result) ≡ true → length (dims_of result) ≤ max_rank
+shard_short : (x : declared_shard.Shard) (result : ValueType) → ResultFits (written_by (Shard x)).result result
+    → list_all has_few_dims (types_in (written_by (Shard x)) result) ≡ true → length (dims_of result) ≤ max_rank
 shard_short x result fits h = few_dims result (passes_first has_few_dims result [] h)
 
-call_short : (x : declared_call.Call) (result : ValueType) → ResultFits (written_by (Call x)).result result → list_all has_few_dims (types_in (written_by (Call x)) result) ≡ true → length (dims_of result) ≤ max_rank
+call_short : (x : declared_call.Call) (result : ValueType) → ResultFits (written_by (Call x)).result result
+    → list_all has_few_dims (types_in (written_by (Call x)) result) ≡ true → length (dims_of result) ≤ max_rank
 call_short x result fits h = few_dims result (passes_last has_few_dims x.operand_types result h)
 
-return_short : (x : declared_return.Return) (result : ValueType) → ResultFits (written_by (Return x)).result result → list_all has_few_dims (types_in (written_by (Return x)) result) ≡ true → length (dims_of result) ≤ max_rank
+return_short : (x : declared_return.Return) (result : ValueType) → ResultFits (written_by (Return x)).result result
+    → list_all has_few_dims (types_in (written_by (Return x)) result) ≡ true → length (dims_of result) ≤ max_rank
 return_short x result fits h = subst (λ t. length (dims_of t) ≤ max_rank) (sym fits) (omega arith)
 
 record GivesNone (kind : OpKind) : Type 0 where
   gives : (operands : List ℕ) (result : ValueType) → giving kind operands result alone ≡ None
   fits : (operands : List ℕ) (result : ValueType) (ts : List TensorValue) → FitsKind kind operands result ts
-  short : (result : ValueType) → ResultFits (written_by kind).result result → list_all has_few_dims (types_in (written_by kind) result) ≡ true → length (dims_of result) ≤ max_rank
+  short : (result : ValueType) → ResultFits (written_by kind).result result
+      → list_all has_few_dims (types_in (written_by kind) result) ≡ true → length (dims_of result) ≤ max_rank
 
 never : false ≡ true → ⊥
 never h = cc
@@ -169,9 +182,12 @@ tensor_or_none (Join x) source = absurd (never source)
 tensor_or_none (Call x) source = inr (record { gives = call_gives x; fits = call_fits x; short = call_short x })
 tensor_or_none (Return x) source = inr (record { gives = return_gives x; fits = return_fits x; short = return_short x })
 
-no_shape : (op : Op) (ts : List TensorValue) → giving op.kind op.operands op.result alone ≡ None → IfSome (shape_given op alone (shapes_of ts)) IsFew
+no_shape : (op : Op) (ts : List TensorValue) → giving op.kind op.operands op.result alone ≡ None
+    → IfSome (shape_given op alone (shapes_of ts)) IsFew
 unfolding shape_given
-no_shape op ts none = go (have_all_extents (typing_of op.kind op.result) (shapes_of ts)) (shape_by op alone (shapes_of ts)) (ap (option_and_then (λ (x : Giving). x.shape (shapes_of ts))) none)
+no_shape op ts none =
+    go (have_all_extents (typing_of op.kind op.result) (shapes_of ts)) (shape_by op alone (shapes_of ts))
+    (ap (option_and_then (λ (x : Giving). x.shape (shapes_of ts))) none)
   where
     go : (b : Bool) (o : Option (List ℕ)) → o ≡ None → IfSome (if b then option_and_then (of_dims (dims_of op.result)) o else None) IsFew
     go true o e = subst (λ p. IfSome (option_and_then (of_dims (dims_of op.result)) p) IsFew) (sym e) tt
@@ -179,21 +195,30 @@ no_shape op ts none = go (have_all_extents (typing_of op.kind op.result) (shapes
 
 -- ---- the operands that are there are of their types
 
-found_types : (op : Op) (values : Values) (ts : List TensorValue) (t : IsTyped op values) → HasTensor (class_of op.kind) → all_there (map values op.operands) ≡ Some ts → AreOfValueTypes (all_types t.scope op) ts
+found_types : (op : Op) (values : Values) (ts : List TensorValue) (t : IsTyped op values) → HasTensor (class_of op.kind)
+    → all_there (map values op.operands) ≡ Some ts → AreOfValueTypes (all_types t.scope op) ts
 found_types op values ts t has h =
     let found = operands_there t.scope op values t.verified has t.have in
     subst (AreOfValueTypes (all_types t.scope op)) (same_Some found.ts ts (sym found.there ∙ h)) found.typed
 
-pub can_where_reached : (f : Func) (arguments : List TensorValue) (op : Op) (values : Values) (ts : List TensorValue) → IsReached f arguments op values → all_there (map values op.operands) ≡ Some ts → CanEvaluate op alone ts
+pub can_where_reached : (f : Func) (arguments : List TensorValue) (op : Op) (values : Values) (ts : List TensorValue)
+    → IsReached f arguments op values → all_there (map values op.operands) ≡ Some ts → CanEvaluate op alone ts
 can_where_reached f arguments op values ts r h =
     let t = typed_there f arguments op values r in
     let s = sound t.scope op t.verified in
     elim (tensor_or_none op.kind s.source) [
       | inl has ↦ can_evaluate t.scope op ts t.verified has (found_types op values ts t has h)
-      | inr n ↦ record { fits = n.fits op.operands op.result ts; rank = n.short op.result t.verified.result s.dims; few = no_shape op ts (n.gives op.operands op.result) }
+      | inr n ↦
+          record {
+            fits = n.fits op.operands op.result ts;
+            rank = n.short op.result t.verified.result s.dims;
+            few = no_shape op ts
+                (n.gives op.operands op.result);
+          }
     ]
 
-pub typed_where_reached : (f : Func) (arguments : List TensorValue) (op : Op) (values : Values) (ts : List TensorValue) (t : TensorValue) → IsReached f arguments op values → all_there (map values op.operands) ≡ Some ts
+pub typed_where_reached : (f : Func) (arguments : List TensorValue) (op : Op) (values : Values) (ts : List TensorValue) (t : TensorValue)
+    → IsReached f arguments op values → all_there (map values op.operands) ≡ Some ts
     → given op alone ts ≡ Some t → IsOfValueType op.result t
 typed_where_reached f arguments op values ts t r h e =
     let known = typed_there f arguments op values r in

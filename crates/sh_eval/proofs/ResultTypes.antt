@@ -1,13 +1,11 @@
 -- What an operation of a verified function gives is of the type of its value.
-use Rattle.std.proofs.Common.{◌≡◌, ℕ, ◌<◌, ◌≤◌, Bool, true, false, List, [], ◌∷◌, ◌++◌, map, length, get_or, drop, Option, Some, None, refl, ap, ap₂, sym, ◌∙◌, arith, subst}
-use Rattle.std.proofs.lemmas.Bool.Decides.{nat_tests}
+use Rattle.std.proofs.Common.{◌≡◌, ℕ, Bool, true, false, List, [], ◌∷◌, ◌++◌, map, drop, Option, Some, None, refl, ap, sym, ◌∙◌, subst}
 use Rattle.std.proofs.lemmas.Option.{none-some, same_Some}
 use Rattle.std.specs.List.{AllByRecursion, list_all}
-use Rattle.std.specs.Prelude.{◌&&◌, ◌^◌, IfSome, if◌then◌else◌, nat_lt, option_and_then, option_map}
+use Rattle.std.specs.Prelude.{◌^◌, IfSome, if◌then◌else◌, nat_lt, option_and_then, option_map}
 use Rattle.sh_base.specs.Cells.{IsCellOf}
 use Rattle.sh_base.specs.Shape.{flat_of}
 use Rattle.sh_base.specs.declared.numbers.Cell.{Cell}
-use Rattle.sh_base.specs.declared.numbers.Cell.TheVariants.{Undef}
 use Rattle.sh_base.specs.declared.numbers.Width.{Width}
 use Rattle.sh_base.specs.declared.operations.BinOp.{BinOp}
 use Rattle.sh_base.specs.declared.places.Place.{Place}
@@ -22,8 +20,7 @@ use Rattle.sh_ir.specs.declared.tensor_ops.CollapseShape as declared_collapse_sh
 use Rattle.sh_ir.specs.declared.tensor_ops.ExpandShape as declared_expand_shape
 use Rattle.sh_ir.specs.declared.tensor_ops.ExtractSlice as declared_extract_slice
 use Rattle.sh_ir.specs.declared.tensor_ops.InsertSlice as declared_insert_slice
-use Rattle.sh_ir.specs.declared.types.Dim.{Dim}
-use Rattle.sh_ir.specs.declared.types.Dim.TheVariants.{Known, Differs}
+use Rattle.sh_ir.specs.declared.types.Dim.TheVariants.{Known}
 use Rattle.sh_ir.specs.declared.types.ValueType.{ValueType}
 use Rattle.sh_ir.specs.declared.types.ValueType.TheVariants as value_type
 use Rattle.sh_ir.specs.Agreement.{dims_of}
@@ -42,10 +39,10 @@ use Rattle.sh_sem.specs.Given.{Giving, alone, built_of, cell_given, given, gives
 use Rattle.sh_sem.specs.Reshapes.{reshaped_cell}
 use Rattle.sh_sem.specs.Scalars.{formula_cell, width_of}
 use Rattle.sh_sem.specs.Slices.{extracted_cell, index_in, inserted_cell, ranges_of}
-use Rattle.sh_sem.specs.Types.{IsOfTensorType, have_extents}
+use Rattle.sh_sem.specs.Types.{have_extents}
 use Rattle.sh_tensor.specs.Tensor.{IsTensor, TensorValue, at}
 use Rattle.sh_eval.specs.Evaluations.{FitsKind}
-use Rattle.sh_eval.specs.Sources.{IsOfScalarType, IsOfValueType}
+use Rattle.sh_eval.specs.Sources.{IsOfValueType}
 use Rattle.sh_eval.specs.VerifiedOps.{HasTensor, IsOfVerifiedOp}
 use Rattle.sh_eval.proofs.CapturedLaws.{captured_types, captured_usable, usable_scalars}
 use Rattle.sh_eval.proofs.CellFits.{IsBuilt, Small, all_at, at_within, binary_within, built_typed, cast_within, compare_within, nest_within, select_within}
@@ -57,7 +54,8 @@ use Rattle.sh_eval.proofs.TypeLaws.{AreOfValueTypes, all_whole}
 
 -- ---- widths
 
-widths_all : (w : Width) (ts : List TensorValue) (ws : List Width) → widths_of ts ≡ ws → AllByRecursion (λ v. v ≡ w) ws → AllByRecursion (λ (t : TensorValue). t.width ≡ w) ts
+widths_all : (w : Width) (ts : List TensorValue) (ws : List Width) → widths_of ts ≡ ws → AllByRecursion (λ v. v ≡ w) ws
+    → AllByRecursion (λ (t : TensorValue). t.width ≡ w) ts
 widths_all w ts ws e h = mapped ts (subst (AllByRecursion (λ v. v ≡ w)) (sym e) h)
   where
     mapped : (ts : List TensorValue) → AllByRecursion (λ v. v ≡ w) (widths_of ts) → AllByRecursion (λ (t : TensorValue). t.width ≡ w) ts
@@ -65,17 +63,20 @@ widths_all w ts ws e h = mapped ts (subst (AllByRecursion (λ v. v ≡ w)) (sym 
     mapped (t ∷ ts) h = (h.0, mapped ts h.1)
 
 -- behind the first
-behind_at : (w : Width) (ts : List TensorValue) (v : Width) (ws : List Width) (i : List ℕ) → AllByRecursion IsTensor ts → widths_of ts ≡ v ∷ ws → AllByRecursion (λ u. u ≡ w) ws
+behind_at : (w : Width) (ts : List TensorValue) (v : Width) (ws : List Width) (i : List ℕ) → AllByRecursion IsTensor ts
+    → widths_of ts ≡ v ∷ ws → AllByRecursion (λ u. u ≡ w) ws
     → AllByRecursion (IsCellOf w) (drop 1 (map (λ t. at t i) ts))
 behind_at w [] v ws i whole e h = tt
 behind_at w (t ∷ ts) v ws i whole e h = all_at w ts i whole.1 (widths_all w ts ws (ap (drop 1) e) h)
 
 -- ---- one tensor's cells, and two tensors'
 
-one_cell : (w : Width) (ts : List TensorValue) (f : TensorValue → Cell) (c : Cell) → ((t : TensorValue) → IsTensor t → IsCellOf t.width (f t)) → AllByRecursion IsTensor ts
+one_cell : (w : Width) (ts : List TensorValue) (f : TensorValue → Cell) (c : Cell)
+    → ((t : TensorValue) → IsTensor t → IsCellOf t.width (f t)) → AllByRecursion IsTensor ts
     → AllByRecursion (λ (t : TensorValue). t.width ≡ w) ts → of_one (λ t. Some (f t)) ts ≡ Some c → IsCellOf w c
 one_cell w [] f c within whole same e = absurd (none-some c e)
-one_cell w (t ∷ []) f c within whole same e = subst (IsCellOf w) (same_Some (f t) c e) (subst (λ v. IsCellOf v (f t)) same.0 (within t whole.0))
+one_cell w (t ∷ []) f c within whole same e =
+    subst (IsCellOf w) (same_Some (f t) c e) (subst (λ v. IsCellOf v (f t)) same.0 (within t whole.0))
 one_cell w (t ∷ u ∷ ts) f c within whole same e = absurd (none-some c e)
 
 two_cells : (w : Width) (ts : List TensorValue) (f : TensorValue → TensorValue → Cell) (c : Cell)
@@ -96,60 +97,93 @@ reshaped_within t shape i is = got_within t.width t.cells (flat_of shape i) (cel
 
 -- ---- kind by kind
 
-module _ (operands : List ℕ) (defines : Option ℕ) (result : ValueType) (place : Place) (ts : List TensorValue) (whole : AllByRecursion IsTensor ts) where
-  constant_cells : (x : declared_constant.Constant) → FitsKind (Constant x) operands result ts → (shape i : List ℕ) (c : Cell) → cell_given (op_by (Constant x) operands defines result place) alone ts shape i ≡ Some c → IsCellOf (width_of result) c
+module _ (operands : List ℕ) (defines : Option ℕ) (result : ValueType) (place : Place) (ts : List TensorValue)
+    (whole : AllByRecursion IsTensor ts) where
+  constant_cells : (x : declared_constant.Constant) → FitsKind (Constant x) operands result ts → (shape i : List ℕ) (c : Cell)
+      → cell_given (op_by (Constant x) operands defines result place) alone ts shape i ≡ Some c → IsCellOf (width_of result) c
   unfolding FitsKind cell_given giving gives_constant
   constant_cells x fits shape i c e = constant_fits (width_of result) x.contents (flat_of shape i) c fits e
 
-  empty_cells : FitsKind (Empty) operands result ts → (shape i : List ℕ) (c : Cell) → cell_given (op_by (Empty) operands defines result place) alone ts shape i ≡ Some c → IsCellOf (width_of result) c
+  empty_cells : FitsKind (Empty) operands result ts → (shape i : List ℕ) (c : Cell)
+      → cell_given (op_by (Empty) operands defines result place) alone ts shape i ≡ Some c → IsCellOf (width_of result) c
   unfolding FitsKind cell_given giving gives_undefined
   empty_cells fits shape i c e = undefined_fits (width_of result) c e
 
-  binary_cells : (x : BinOp) → FitsKind (Binary x) operands result ts → (shape i : List ℕ) (c : Cell) → cell_given (op_by (Binary x) operands defines result place) alone ts shape i ≡ Some c → IsCellOf (width_of result) c
+  binary_cells : (x : BinOp) → FitsKind (Binary x) operands result ts → (shape i : List ℕ) (c : Cell)
+      → cell_given (op_by (Binary x) operands defines result place) alone ts shape i ≡ Some c → IsCellOf (width_of result) c
   unfolding FitsKind cell_given giving gives_cells formula_cell typing_of
-  binary_cells x fits shape i c e = binary_within x (width_of result) (map (λ t. at t i) ts) c (all_at (width_of result) ts i whole (widths_all (width_of result) ts (width_of result ∷ width_of result ∷ []) fits (refl, (refl, tt)))) e
+  binary_cells x fits shape i c e =
+      binary_within x (width_of result) (map (λ t. at t i) ts) c
+      (all_at (width_of result) ts i whole (widths_all (width_of result) ts (width_of result ∷ width_of result ∷ []) fits
+      (refl, (refl, tt)))) e
 
-  compare_cells : (x : declared_compare.Compare) → FitsKind (Compare x) operands result ts → (shape i : List ℕ) (c : Cell) → cell_given (op_by (Compare x) operands defines result place) alone ts shape i ≡ Some c → IsCellOf (width_of result) c
+  compare_cells : (x : declared_compare.Compare) → FitsKind (Compare x) operands result ts → (shape i : List ℕ) (c : Cell)
+      → cell_given (op_by (Compare x) operands defines result place) alone ts shape i ≡ Some c → IsCellOf (width_of result) c
   unfolding FitsKind cell_given giving gives_cells formula_cell typing_of
-  compare_cells x fits shape i c e = subst (λ w. IsCellOf w c) (sym fits.1) (compare_within x.predicate (width_of x.operand_type) (map (λ t. at t i) ts) c e)
+  compare_cells x fits shape i c e =
+      subst (λ w. IsCellOf w c) (sym fits.1) (compare_within x.predicate (width_of x.operand_type) (map (λ t. at t i) ts) c e)
 
-  select_cells : (x : declared_select.Select) → FitsKind (Select x) operands result ts → (shape i : List ℕ) (c : Cell) → cell_given (op_by (Select x) operands defines result place) alone ts shape i ≡ Some c → IsCellOf (width_of result) c
+  select_cells : (x : declared_select.Select) → FitsKind (Select x) operands result ts → (shape i : List ℕ) (c : Cell)
+      → cell_given (op_by (Select x) operands defines result place) alone ts shape i ≡ Some c → IsCellOf (width_of result) c
   unfolding FitsKind cell_given giving gives_cells formula_cell typing_of
-  select_cells x fits shape i c e = select_within (width_of result) (map (λ t. at t i) ts) c (behind_at (width_of result) ts (width_of x.condition_type) (width_of result ∷ width_of result ∷ []) i whole fits (refl, (refl, tt))) e
+  select_cells x fits shape i c e =
+      select_within (width_of result) (map (λ t. at t i) ts) c
+      (behind_at (width_of result) ts (width_of x.condition_type) (width_of result ∷ width_of result ∷ []) i whole fits
+      (refl, (refl, tt))) e
 
-  cast_cells : (x : declared_cast.Cast) → FitsKind (Cast x) operands result ts → (shape i : List ℕ) (c : Cell) → cell_given (op_by (Cast x) operands defines result place) alone ts shape i ≡ Some c → IsCellOf (width_of result) c
+  cast_cells : (x : declared_cast.Cast) → FitsKind (Cast x) operands result ts → (shape i : List ℕ) (c : Cell)
+      → cell_given (op_by (Cast x) operands defines result place) alone ts shape i ≡ Some c → IsCellOf (width_of result) c
   unfolding FitsKind cell_given giving gives_cells formula_cell typing_of
-  cast_cells x fits shape i c e = cast_within x.op (width_of x.operand_type) (width_of result) (map (λ t. at t i) ts) c fits.1 (all_at (width_of x.operand_type) ts i whole (widths_all (width_of x.operand_type) ts (width_of x.operand_type ∷ []) fits.0 (refl, tt))) e
+  cast_cells x fits shape i c e =
+      cast_within x.op (width_of x.operand_type) (width_of result) (map (λ t. at t i) ts) c fits.1
+      (all_at (width_of x.operand_type) ts i whole
+      (widths_all (width_of x.operand_type) ts (width_of x.operand_type ∷ []) fits.0 (refl, tt))) e
 
-  extract_cells : (x : declared_extract_slice.ExtractSlice) → FitsKind (ExtractSlice x) operands result ts → (shape i : List ℕ) (c : Cell) → cell_given (op_by (ExtractSlice x) operands defines result place) alone ts shape i ≡ Some c → IsCellOf (width_of result) c
+  extract_cells : (x : declared_extract_slice.ExtractSlice) → FitsKind (ExtractSlice x) operands result ts → (shape i : List ℕ) (c : Cell)
+      → cell_given (op_by (ExtractSlice x) operands defines result place) alone ts shape i ≡ Some c → IsCellOf (width_of result) c
   unfolding FitsKind cell_given giving gives_slice
-  extract_cells x fits shape i c e = one_cell (width_of result) ts (λ t. extracted_cell (ranges_of x.slice (dims_of x.source_type) t.shape) t i) c (λ t is. at_within t _ is) whole fits e
+  extract_cells x fits shape i c e =
+      one_cell (width_of result) ts (λ t. extracted_cell (ranges_of x.slice (dims_of x.source_type) t.shape) t i) c
+      (λ t is. at_within t _ is) whole fits e
 
-  insert_cells : (x : declared_insert_slice.InsertSlice) → FitsKind (InsertSlice x) operands result ts → (shape i : List ℕ) (c : Cell) → cell_given (op_by (InsertSlice x) operands defines result place) alone ts shape i ≡ Some c → IsCellOf (width_of result) c
+  insert_cells : (x : declared_insert_slice.InsertSlice) → FitsKind (InsertSlice x) operands result ts → (shape i : List ℕ) (c : Cell)
+      → cell_given (op_by (InsertSlice x) operands defines result place) alone ts shape i ≡ Some c → IsCellOf (width_of result) c
   unfolding FitsKind cell_given giving gives_insertion
-  insert_cells x fits shape i c e = two_cells (width_of result) ts (λ t u. inserted_cell (ranges_of x.slice (dims_of result) u.shape) t u i) c (λ t u a b f g. inserted_within (width_of result) t u (index_in (ranges_of x.slice (dims_of result) u.shape) i) i a b f g) whole fits e
+  insert_cells x fits shape i c e =
+      two_cells (width_of result) ts (λ t u. inserted_cell (ranges_of x.slice (dims_of result) u.shape) t u i) c
+      (λ t u a b f g. inserted_within (width_of result) t u
+      (index_in (ranges_of x.slice (dims_of result) u.shape) i) i a b f g) whole fits e
 
-  collapse_cells : (x : declared_collapse_shape.CollapseShape) → FitsKind (CollapseShape x) operands result ts → (shape i : List ℕ) (c : Cell) → cell_given (op_by (CollapseShape x) operands defines result place) alone ts shape i ≡ Some c → IsCellOf (width_of result) c
+  collapse_cells : (x : declared_collapse_shape.CollapseShape) → FitsKind (CollapseShape x) operands result ts
+      → (shape i : List ℕ) (c : Cell) → cell_given (op_by (CollapseShape x) operands defines result place) alone ts shape i ≡ Some c
+      → IsCellOf (width_of result) c
   unfolding FitsKind cell_given giving gives_collapse
-  collapse_cells x fits shape i c e = one_cell (width_of result) ts (λ t. reshaped_cell t shape i) c (λ t is. reshaped_within t shape i is) whole fits e
+  collapse_cells x fits shape i c e =
+      one_cell (width_of result) ts (λ t. reshaped_cell t shape i) c (λ t is. reshaped_within t shape i is) whole fits e
 
-  expand_cells : (x : declared_expand_shape.ExpandShape) → FitsKind (ExpandShape x) operands result ts → (shape i : List ℕ) (c : Cell) → cell_given (op_by (ExpandShape x) operands defines result place) alone ts shape i ≡ Some c → IsCellOf (width_of result) c
+  expand_cells : (x : declared_expand_shape.ExpandShape) → FitsKind (ExpandShape x) operands result ts → (shape i : List ℕ) (c : Cell)
+      → cell_given (op_by (ExpandShape x) operands defines result place) alone ts shape i ≡ Some c → IsCellOf (width_of result) c
   unfolding FitsKind cell_given giving gives_expansion
-  expand_cells x fits shape i c e = one_cell (width_of result) ts (λ t. reshaped_cell t shape i) c (λ t is. reshaped_within t shape i is) whole fits e
+  expand_cells x fits shape i c e =
+      one_cell (width_of result) ts (λ t. reshaped_cell t shape i) c (λ t is. reshaped_within t shape i is) whole fits e
 
-  nest_cell_of : (kind : OpKind) (o : Option Structure) → IfSome o (λ s. CanNest s operands (width_of result) ts) → AllByRecursion Small (map (λ t. t.shape) ts) → (shape i : List ℕ) (c : Cell)
+  nest_cell_of : (kind : OpKind) (o : Option Structure) → IfSome o (λ s. CanNest s operands (width_of result) ts)
+      → AllByRecursion Small (map (λ t. t.shape) ts) → (shape i : List ℕ) (c : Cell)
       → option_and_then (λ (x : Giving). x.cell ts shape i) (option_map (gives_nest operands) o) ≡ Some c → IsCellOf (width_of result) c
   unfolding gives_nest
   nest_cell_of kind None can small shape i c e = absurd (none-some c e)
   nest_cell_of kind (Some s) can small shape i c e = nest_within s operands (width_of result) ts i c can whole small e
 
-  nest_cells : (kind : OpKind) → IsNest kind operands result ts → AllByRecursion Small (map (λ t. t.shape) ts) → (shape i : List ℕ) (c : Cell)
+  nest_cells : (kind : OpKind) → IsNest kind operands result ts → AllByRecursion Small (map (λ t. t.shape) ts)
+      → (shape i : List ℕ) (c : Cell)
       → cell_given (op_by kind operands defines result place) alone ts shape i ≡ Some c → IsCellOf (width_of result) c
   unfolding cell_given
   nest_cells kind is small shape i c e =
-      nest_cell_of kind (structure_of kind) is.fits.fits small shape i c (ap (option_and_then (λ (x : Giving). x.cell ts shape i)) (sym (is.gives alone)) ∙ e)
+      nest_cell_of kind (structure_of kind) is.fits.fits small shape i c
+      (ap (option_and_then (λ (x : Giving). x.cell ts shape i)) (sym (is.gives alone)) ∙ e)
 
-  kind_cells : (kind : OpKind) → HasTensor (class_of kind) → FitsKind kind operands result ts → AllByRecursion Small (map (λ t. t.shape) ts) → (shape i : List ℕ) (c : Cell)
+  kind_cells : (kind : OpKind) → HasTensor (class_of kind) → FitsKind kind operands result ts → AllByRecursion Small (map (λ t. t.shape) ts)
+      → (shape i : List ℕ) (c : Cell)
       → cell_given (op_by kind operands defines result place) alone ts shape i ≡ Some c → IsCellOf (width_of result) c
   kind_cells (Constant x) has fits small shape i c e = constant_cells x fits shape i c e
   kind_cells (Binary x) has fits small shape i c e = binary_cells x fits shape i c e
@@ -161,18 +195,30 @@ module _ (operands : List ℕ) (defines : Option ℕ) (result : ValueType) (plac
   kind_cells (InsertSlice x) has fits small shape i c e = insert_cells x fits shape i c e
   kind_cells (CollapseShape x) has fits small shape i c e = collapse_cells x fits shape i c e
   kind_cells (ExpandShape x) has fits small shape i c e = expand_cells x fits shape i c e
-  kind_cells (Fill x) has fits small shape i c e = nest_cells (Fill x) (structured_nest (Fill x) operands result ts refl fits) small shape i c e
-  kind_cells (Matmul x) has fits small shape i c e = nest_cells (Matmul x) (structured_nest (Matmul x) operands result ts refl fits) small shape i c e
-  kind_cells (BatchMatmul x) has fits small shape i c e = nest_cells (BatchMatmul x) (structured_nest (BatchMatmul x) operands result ts refl fits) small shape i c e
-  kind_cells (Matvec x) has fits small shape i c e = nest_cells (Matvec x) (structured_nest (Matvec x) operands result ts refl fits) small shape i c e
-  kind_cells (Vecmat x) has fits small shape i c e = nest_cells (Vecmat x) (structured_nest (Vecmat x) operands result ts refl fits) small shape i c e
-  kind_cells (Dot x) has fits small shape i c e = nest_cells (Dot x) (structured_nest (Dot x) operands result ts refl fits) small shape i c e
-  kind_cells (Conv1d x) has fits small shape i c e = nest_cells (Conv1d x) (convolution_nest (Conv1d x) operands result ts refl fits) small shape i c e
-  kind_cells (Conv2d x) has fits small shape i c e = nest_cells (Conv2d x) (convolution_nest (Conv2d x) operands result ts refl fits) small shape i c e
-  kind_cells (Transpose x) has fits small shape i c e = nest_cells (Transpose x) (structured_nest (Transpose x) operands result ts refl fits) small shape i c e
-  kind_cells (Broadcast x) has fits small shape i c e = nest_cells (Broadcast x) (structured_nest (Broadcast x) operands result ts refl fits) small shape i c e
-  kind_cells (Reduce x) has fits small shape i c e = nest_cells (Reduce x) (structured_nest (Reduce x) operands result ts refl fits) small shape i c e
-  kind_cells (Generic x) has fits small shape i c e = nest_cells (Generic x) (structured_nest (Generic x) operands result ts refl fits) small shape i c e
+  kind_cells (Fill x) has fits small shape i c e =
+      nest_cells (Fill x) (structured_nest (Fill x) operands result ts refl fits) small shape i c e
+  kind_cells (Matmul x) has fits small shape i c e =
+      nest_cells (Matmul x) (structured_nest (Matmul x) operands result ts refl fits) small shape i c e
+  kind_cells (BatchMatmul x) has fits small shape i c e =
+      nest_cells (BatchMatmul x) (structured_nest (BatchMatmul x) operands result ts refl fits) small shape i c e
+  kind_cells (Matvec x) has fits small shape i c e =
+      nest_cells (Matvec x) (structured_nest (Matvec x) operands result ts refl fits) small shape i c e
+  kind_cells (Vecmat x) has fits small shape i c e =
+      nest_cells (Vecmat x) (structured_nest (Vecmat x) operands result ts refl fits) small shape i c e
+  kind_cells (Dot x) has fits small shape i c e =
+      nest_cells (Dot x) (structured_nest (Dot x) operands result ts refl fits) small shape i c e
+  kind_cells (Conv1d x) has fits small shape i c e =
+      nest_cells (Conv1d x) (convolution_nest (Conv1d x) operands result ts refl fits) small shape i c e
+  kind_cells (Conv2d x) has fits small shape i c e =
+      nest_cells (Conv2d x) (convolution_nest (Conv2d x) operands result ts refl fits) small shape i c e
+  kind_cells (Transpose x) has fits small shape i c e =
+      nest_cells (Transpose x) (structured_nest (Transpose x) operands result ts refl fits) small shape i c e
+  kind_cells (Broadcast x) has fits small shape i c e =
+      nest_cells (Broadcast x) (structured_nest (Broadcast x) operands result ts refl fits) small shape i c e
+  kind_cells (Reduce x) has fits small shape i c e =
+      nest_cells (Reduce x) (structured_nest (Reduce x) operands result ts refl fits) small shape i c e
+  kind_cells (Generic x) has fits small shape i c e =
+      nest_cells (Generic x) (structured_nest (Generic x) operands result ts refl fits) small shape i c e
   kind_cells (Sharding x) has fits small shape i c e = absurd has
   kind_cells (Shard x) has fits small shape i c e = absurd has
   kind_cells (AllGather x) has fits small shape i c e = absurd has
@@ -192,17 +238,22 @@ module _ (operands : List ℕ) (defines : Option ℕ) (result : ValueType) (plac
 
 dims_small : (shape : List ℕ) → list_all is_spelled_dim (map (λ n. Known n) shape) ≡ true → Small shape
 dims_small [] h = tt
-dims_small (n ∷ shape) h =
-    (below_by n (2 ^ 64) (both_left (nat_lt n (2 ^ 64)) (list_all is_spelled_dim (map (λ n. Known n) shape)) h), dims_small shape (both_right (nat_lt n (2 ^ 64)) (list_all is_spelled_dim (map (λ n. Known n) shape)) h))
+dims_small (n ∷ shape) h = (
+  below_by n (2 ^ 64) (both_left (nat_lt n (2 ^ 64)) (list_all is_spelled_dim (map (λ n. Known n) shape)) h),
+  dims_small shape
+      (both_right (nat_lt n (2 ^ 64)) (list_all is_spelled_dim (map (λ n. Known n) shape)) h),
+)
 
 type_small : (type : ValueType) (t : TensorValue) → is_spelled_type type ≡ true → IsOfValueType type t → Small t.shape
-type_small (value_type.Tensor type) t spelled h = dims_small t.shape (subst (λ dims. list_all is_spelled_dim dims ≡ true) (sym h.extents) spelled)
+type_small (value_type.Tensor type) t spelled h =
+    dims_small t.shape (subst (λ dims. list_all is_spelled_dim dims ≡ true) (sym h.extents) spelled)
 type_small (value_type.Scalar w) t spelled h = subst Small (sym h.shape) tt
 type_small value_type.Nothing t spelled h = absurd h
 type_small value_type.Sharding t spelled h = absurd h
 type_small value_type.Index t spelled h = absurd h
 
-all_small : (types : List ValueType) (ts : List TensorValue) → list_all is_spelled_type types ≡ true → AreOfValueTypes types ts → AllByRecursion Small (map (λ t. t.shape) ts)
+all_small : (types : List ValueType) (ts : List TensorValue) → list_all is_spelled_type types ≡ true → AreOfValueTypes types ts
+    → AllByRecursion Small (map (λ t. t.shape) ts)
 all_small [] [] spelled h = tt
 all_small [] (t ∷ ts) spelled h = absurd h
 all_small (type ∷ types) [] spelled h = absurd h
@@ -218,7 +269,8 @@ scalar_spelled value_type.Nothing h = absurd (cc)
 scalar_spelled value_type.Sharding h = absurd (cc)
 scalar_spelled value_type.Index h = absurd (cc)
 
-scalars_spelled : (types more : List ValueType) → list_all is_spelled_type types ≡ true → list_all is_scalar more ≡ true → list_all is_spelled_type (types ++ more) ≡ true
+scalars_spelled : (types more : List ValueType) → list_all is_spelled_type types ≡ true → list_all is_scalar more ≡ true
+    → list_all is_spelled_type (types ++ more) ≡ true
 scalars_spelled [] [] h k = refl
 scalars_spelled [] (t ∷ more) h k =
     let here = scalar_spelled t (both_left (is_scalar t) (list_all is_scalar more) k) in
@@ -229,10 +281,12 @@ scalars_spelled (t ∷ types) more h k =
     let rest = scalars_spelled types more (both_right (is_spelled_type t) (list_all is_spelled_type types) h) k in
     rw (here, rest) refl
 
-operands_small : (scope : Scope) (op : Op) (ts : List TensorValue) → IsOfVerifiedOp scope op → HasTensor (class_of op.kind) → AreOfValueTypes (all_types scope op) ts → AllByRecursion Small (map (λ t. t.shape) ts)
+operands_small : (scope : Scope) (op : Op) (ts : List TensorValue) → IsOfVerifiedOp scope op → HasTensor (class_of op.kind)
+    → AreOfValueTypes (all_types scope op) ts → AllByRecursion Small (map (λ t. t.shape) ts)
 operands_small scope op ts v has typed =
     all_small (all_types scope op) ts
-    (scalars_spelled (typing_of op.kind op.result) (captured_types scope.values op.kind) (typing_passes is_spelled_type op.kind op.result has v.spelled)
+    (scalars_spelled (typing_of op.kind op.result) (captured_types scope.values op.kind)
+    (typing_passes is_spelled_type op.kind op.result has v.spelled)
     (usable_scalars scope.values v.constants (captured_in (written_by op.kind)) (captured_usable scope op v))) typed
 
 -- ---- the type of the result
@@ -241,41 +295,58 @@ no_extents : (shape : List ℕ) → have_extents [] shape ≡ true → shape ≡
 no_extents [] h = refl
 no_extents (n ∷ shape) h = absurd (cc)
 
-of_type : (result : ValueType) (shape : List ℕ) (t : TensorValue) → IsSoundResult result → have_extents (dims_of result) shape ≡ true → IsBuilt shape (width_of result) t → IsOfValueType result t
-of_type (value_type.Tensor type) shape t sound h is = record { extents = ap (map (λ n. Known n)) is.shape_is ∙ extents_are type.dims shape sound.known h; width = is.width_is; whole = is.whole }
-of_type (value_type.Scalar w) shape t sound h is = record { shape = is.shape_is ∙ no_extents shape h; width = is.width_is; whole = is.whole }
+of_type : (result : ValueType) (shape : List ℕ) (t : TensorValue) → IsSoundResult result → have_extents (dims_of result) shape ≡ true
+    → IsBuilt shape (width_of result) t → IsOfValueType result t
+of_type (value_type.Tensor type) shape t sound h is =
+    record {
+      extents = ap (map (λ n. Known n)) is.shape_is
+          ∙ extents_are type.dims shape sound.known h;
+      width = is.width_is;
+      whole = is.whole;
+    }
+of_type (value_type.Scalar w) shape t sound h is =
+    record { shape = is.shape_is ∙ no_extents shape h; width = is.width_is; whole = is.whole }
 of_type value_type.Nothing shape t sound h is = let none : false ≡ true = sound.spelled in absurd (cc)
 of_type value_type.Sharding shape t sound h is = let none : false ≡ true = sound.spelled in absurd (cc)
 of_type value_type.Index shape t sound h is = let none : false ≡ true = sound.spelled in absurd (cc)
 
 -- the shape that is given has the extents of the result's type
-shape_has : (op : Op) (ts : List TensorValue) (shape : List ℕ) → shape_given op alone (map (λ t. t.shape) ts) ≡ Some shape → have_extents (dims_of op.result) shape ≡ true
+shape_has : (op : Op) (ts : List TensorValue) (shape : List ℕ) → shape_given op alone (map (λ t. t.shape) ts) ≡ Some shape
+    → have_extents (dims_of op.result) shape ≡ true
 unfolding shape_given
 shape_has op ts shape h = first (have_all_extents (typing_of op.kind op.result) (map (λ t. t.shape) ts)) h
   where
-    third : (s : List ℕ) (b : Bool) → b ≡ have_extents (dims_of op.result) s → (if b then Some s else None) ≡ Some shape → have_extents (dims_of op.result) shape ≡ true
+    third : (s : List ℕ) (b : Bool) → b ≡ have_extents (dims_of op.result) s → (if b then Some s else None) ≡ Some shape
+        → have_extents (dims_of op.result) shape ≡ true
     third s true is e = subst (λ z. have_extents (dims_of op.result) z ≡ true) (same_Some s shape e) (sym is)
     third s false is e = absurd (none-some shape e)
 
-    second : (o : Option (List ℕ)) → option_and_then (of_dims (dims_of op.result)) o ≡ Some shape → have_extents (dims_of op.result) shape ≡ true
+    second : (o : Option (List ℕ)) → option_and_then (of_dims (dims_of op.result)) o ≡ Some shape
+        → have_extents (dims_of op.result) shape ≡ true
     second None e = absurd (none-some shape e)
     second (Some s) e = third s (have_extents (dims_of op.result) s) refl e
 
-    first : (b : Bool) → (if b then option_and_then (of_dims (dims_of op.result)) (shape_by op alone (map (λ t. t.shape) ts)) else None) ≡ Some shape → have_extents (dims_of op.result) shape ≡ true
+    first : (b : Bool)
+        → (if b then option_and_then (of_dims (dims_of op.result)) (shape_by op alone (map (λ t. t.shape) ts)) else None) ≡ Some shape
+        → have_extents (dims_of op.result) shape ≡ true
     first true e = second (shape_by op alone (map (λ t. t.shape) ts)) e
     first false e = absurd (none-some shape e)
 
 -- What is given on operands of the types that are written for them is of the result's type.
-pub result_typed : (scope : Scope) (op : Op) (ts : List TensorValue) → IsOfVerifiedOp scope op → HasTensor (class_of op.kind) → AreOfValueTypes (all_types scope op) ts → (t : TensorValue) → given op alone ts ≡ Some t
+pub result_typed : (scope : Scope) (op : Op) (ts : List TensorValue) → IsOfVerifiedOp scope op → HasTensor (class_of op.kind)
+    → AreOfValueTypes (all_types scope op) ts → (t : TensorValue) → given op alone ts ≡ Some t
     → IsOfValueType op.result t
 unfolding given
 result_typed scope op ts v has typed t e = go (shape_given op alone (map (λ t. t.shape) ts)) refl e
   where
-    go : (o : Option (List ℕ)) → shape_given op alone (map (λ t. t.shape) ts) ≡ o → option_and_then (λ shape. built_of shape (width_of op.result) (cell_given op alone ts shape)) o ≡ Some t → IsOfValueType op.result t
+    go : (o : Option (List ℕ)) → shape_given op alone (map (λ t. t.shape) ts) ≡ o
+        → option_and_then (λ shape. built_of shape (width_of op.result) (cell_given op alone ts shape)) o ≡ Some t
+        → IsOfValueType op.result t
     go None is f = absurd (none-some t f)
     go (Some shape) is f =
         let whole = all_whole (all_types scope op) ts typed in
         let small = operands_small scope op ts v has typed in
         let fits = (can_evaluate scope op ts v has typed).fits in
         of_type op.result shape t (sound_result scope op v has) (shape_has op ts shape is)
-        (built_typed shape (width_of op.result) (cell_given op alone ts shape) (λ i c found. kind_cells op.operands op.defines op.result op.place ts whole op.kind has fits small shape i c found) t f)
+        (built_typed shape (width_of op.result) (cell_given op alone ts shape)
+        (λ i c found. kind_cells op.operands op.defines op.result op.place ts whole op.kind has fits small shape i c found) t f)

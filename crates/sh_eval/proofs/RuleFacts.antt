@@ -1,10 +1,9 @@
 -- What the rules say of an operation of a verified function in source form.
-use Rattle.std.proofs.Common.{◌≡◌, ℕ, ◌+◌, Bool, true, false, List, [], ◌∷◌, ◌++◌, map, length, Option, Some, None, refl, ap, ap₂, sym, ◌∙◌, arith, subst}
-use Rattle.std.proofs.lemmas.Bool.Decides.{nat_tests}
+use Rattle.std.proofs.Common.{◌≡◌, ℕ, ◌+◌, Bool, true, false, List, [], ◌∷◌, ◌++◌, length, Option, Some, None, refl, ap, sym, ◌∙◌, arith, subst}
 use Rattle.std.proofs.lemmas.List.{length-append}
 use Rattle.std.specs.List.{list_all, list_any}
 use Rattle.std.specs.Option.{option_map_or}
-use Rattle.std.specs.Prelude.{◌&&◌, ◌||◌, nat_eq, not, is_some}
+use Rattle.std.specs.Prelude.{◌&&◌, ◌||◌, nat_eq, not}
 use Rattle.sh_base.specs.declared.rules.Rule.TheVariants.{L2, L4, V1, V3, V4, V5, V8, V9, V10}
 use Rattle.sh_ir.specs.declared.linalg_ops.Broadcast as declared_broadcast
 use Rattle.sh_ir.specs.declared.linalg_ops.InsOuts.{InsOuts}
@@ -117,8 +116,10 @@ sound scope op v =
 
 arity_typed : (x : InsOuts) → names_typed x ≡ true → Some (x.ins_count + x.outs_count) ≡ Some (length (operand_types x))
 arity_typed x h =
-    let ins : length x.ins_types ≡ x.ins_count = equal_numbers (length x.ins_types) x.ins_count (both_left (nat_eq (length x.ins_types) x.ins_count) (nat_eq (length x.outs_types) x.outs_count) h) in
-    let outs : length x.outs_types ≡ x.outs_count = equal_numbers (length x.outs_types) x.outs_count (both_right (nat_eq (length x.ins_types) x.ins_count) (nat_eq (length x.outs_types) x.outs_count) h) in
+    let ins : length x.ins_types ≡ x.ins_count = equal_numbers (length x.ins_types) x.ins_count
+    (both_left (nat_eq (length x.ins_types) x.ins_count) (nat_eq (length x.outs_types) x.outs_count) h) in
+    let outs : length x.outs_types ≡ x.outs_count = equal_numbers (length x.outs_types) x.outs_count
+    (both_right (nat_eq (length x.ins_types) x.ins_count) (nat_eq (length x.outs_types) x.outs_count) h) in
     let all : length (operand_types x) ≡ length x.ins_types + length x.outs_types = length-append x.ins_types x.outs_types in
     let same : x.ins_count + x.outs_count ≡ length (operand_types x) = omega (arith, ins, outs, all) in
     ap (λ n. Some n) same
@@ -126,7 +127,8 @@ arity_typed x h =
 arity_named : (inputs : ℕ) (x : InsOuts) → names inputs x ≡ true → Some (x.ins_count + x.outs_count) ≡ Some (length (operand_types x))
 arity_named inputs x h = arity_typed x (both_right (nat_eq x.ins_count inputs && nat_eq x.outs_count 1) (names_typed x) h)
 
-pub arity : (kind : OpKind) (operands : List ℕ) (result : ValueType) → HasTensor (class_of kind) → counts_fit kind operands ≡ true → (written_by kind).operands ≡ Some (length (typing_of kind result))
+pub arity : (kind : OpKind) (operands : List ℕ) (result : ValueType) → HasTensor (class_of kind) → counts_fit kind operands ≡ true
+    → (written_by kind).operands ≡ Some (length (typing_of kind result))
 unfolding counts_fit typing_of
 arity (Constant x) operands result has h = refl
 arity (Binary x) operands result has h = refl
@@ -192,16 +194,19 @@ passes_second P t u h = passes_first P u [] (both_right (P t) (list_all P (u ∷
 pub passes_last : (P : ValueType → Bool) (ts : List ValueType) (t : ValueType) → list_all P (ts ++ t ∷ []) ≡ true → P t ≡ true
 passes_last P ts t h = passes_first P t [] (all_back P ts (t ∷ []) h)
 
-pub typing_passes : (P : ValueType → Bool) (kind : OpKind) (result : ValueType) → HasTensor (class_of kind) → list_all P (types_in (written_by kind) result) ≡ true → list_all P (typing_of kind result) ≡ true
+pub typing_passes : (P : ValueType → Bool) (kind : OpKind) (result : ValueType) → HasTensor (class_of kind)
+    → list_all P (types_in (written_by kind) result) ≡ true → list_all P (typing_of kind result) ≡ true
 unfolding typing_of
 typing_passes P (Constant x) result has h = refl
 typing_passes P (Binary x) result has h = let r = passes_first P result [] h in rw r refl
 typing_passes P (Compare x) result has h = let r = passes_first P x.operand_type [] h in rw r refl
-typing_passes P (Select x) result has h = let c = passes_first P x.condition_type (result ∷ []) h in let r = passes_second P x.condition_type result h in rw (c, r) refl
+typing_passes P (Select x) result has h =
+    let c = passes_first P x.condition_type (result ∷ []) h in let r = passes_second P x.condition_type result h in rw (c, r) refl
 typing_passes P (Cast x) result has h = let r = passes_first P x.operand_type (result ∷ []) h in rw r refl
 typing_passes P Empty result has h = refl
 typing_passes P (ExtractSlice x) result has h = let r = passes_first P x.source_type (result ∷ []) h in rw r refl
-typing_passes P (InsertSlice x) result has h = let c = passes_first P x.source_type (result ∷ []) h in let r = passes_second P x.source_type result h in rw (c, r) refl
+typing_passes P (InsertSlice x) result has h =
+    let c = passes_first P x.source_type (result ∷ []) h in let r = passes_second P x.source_type result h in rw (c, r) refl
 typing_passes P (CollapseShape x) result has h = let r = passes_first P x.source_type (result ∷ []) h in rw r refl
 typing_passes P (ExpandShape x) result has h = let r = passes_first P x.source_type (result ∷ []) h in rw r refl
 typing_passes P (Fill x) result has h = all_front P (operand_types x) (result ∷ []) h
@@ -231,7 +236,8 @@ typing_passes P (Join x) result has h = absurd has
 typing_passes P (Call x) result has h = absurd has
 typing_passes P (Return x) result has h = absurd has
 
-pub typing_values : (kind : OpKind) (result : ValueType) → HasTensor (class_of kind) → list_all is_spelled_type (types_in (written_by kind) result) ≡ true → list_all has_value (typing_of kind result) ≡ true
+pub typing_values : (kind : OpKind) (result : ValueType) → HasTensor (class_of kind)
+    → list_all is_spelled_type (types_in (written_by kind) result) ≡ true → list_all has_value (typing_of kind result) ≡ true
 typing_values kind result has h = spelled_values (typing_of kind result) (typing_passes is_spelled_type kind result has h)
 
 -- so many inputs, and one output
@@ -249,22 +255,28 @@ pub one_output : (inputs : ℕ) (x : InsOuts) → names inputs x ≡ true → On
 one_output inputs x h =
     let counts = both_left (nat_eq x.ins_count inputs && nat_eq x.outs_count 1) (names_typed x) h in
     let typed = both_right (nat_eq x.ins_count inputs && nat_eq x.outs_count 1) (names_typed x) h in
-    let ins : x.ins_count ≡ inputs = equal_numbers x.ins_count inputs (both_left (nat_eq x.ins_count inputs) (nat_eq x.outs_count 1) counts) in
+    let ins : x.ins_count ≡ inputs = equal_numbers x.ins_count inputs
+    (both_left (nat_eq x.ins_count inputs) (nat_eq x.outs_count 1) counts) in
     let outs : x.outs_count ≡ 1 = equal_numbers x.outs_count 1 (both_right (nat_eq x.ins_count inputs) (nat_eq x.outs_count 1) counts) in
-    let its : length x.ins_types ≡ x.ins_count = equal_numbers (length x.ins_types) x.ins_count (both_left (nat_eq (length x.ins_types) x.ins_count) (nat_eq (length x.outs_types) x.outs_count) typed) in
-    let one : length x.outs_types ≡ x.outs_count = equal_numbers (length x.outs_types) x.outs_count (both_right (nat_eq (length x.ins_types) x.ins_count) (nat_eq (length x.outs_types) x.outs_count) typed) in
+    let its : length x.ins_types ≡ x.ins_count = equal_numbers (length x.ins_types) x.ins_count
+    (both_left (nat_eq (length x.ins_types) x.ins_count) (nat_eq (length x.outs_types) x.outs_count) typed) in
+    let one : length x.outs_types ≡ x.outs_count = equal_numbers (length x.outs_types) x.outs_count
+    (both_right (nat_eq (length x.ins_types) x.ins_count) (nat_eq (length x.outs_types) x.outs_count) typed) in
     record { out = first_type x.outs_types; ins = its ∙ ins; outs = one_of x.outs_types (one ∙ outs) }
 
-passes_output : (P : ValueType → Bool) (x : InsOuts) → OneOutput 1 x → list_all P (operand_types x ++ []) ≡ true → P (first_type x.outs_types) ≡ true
+passes_output : (P : ValueType → Bool) (x : InsOuts) → OneOutput 1 x → list_all P (operand_types x ++ []) ≡ true
+    → P (first_type x.outs_types) ≡ true
 passes_output P x one h =
     let here = all_back P x.ins_types x.outs_types (all_front P (operand_types x) [] h) in
     subst (λ ts. P (first_type ts) ≡ true) (sym one.outs) (passes_first P one.out [] (subst (λ ts. list_all P ts ≡ true) one.outs here))
 
-pub counts_transpose : (x : declared_transpose.Transpose) (operands : List ℕ) → counts_fit (Transpose x) operands ≡ true → names 1 x.ins_outs ≡ true
+pub counts_transpose : (x : declared_transpose.Transpose) (operands : List ℕ) → counts_fit (Transpose x) operands ≡ true
+    → names 1 x.ins_outs ≡ true
 unfolding counts_fit
 counts_transpose x operands h = h
 
-pub counts_broadcast : (x : declared_broadcast.Broadcast) (operands : List ℕ) → counts_fit (Broadcast x) operands ≡ true → names 1 x.ins_outs ≡ true
+pub counts_broadcast : (x : declared_broadcast.Broadcast) (operands : List ℕ) → counts_fit (Broadcast x) operands ≡ true
+    → names 1 x.ins_outs ≡ true
 unfolding counts_fit
 counts_broadcast x operands h = h
 
@@ -273,11 +285,13 @@ unfolding counts_fit
 counts_reduce x operands h = h
 
 module _ (P : ValueType → Bool) (test : (t : ValueType) → P t ≡ true → P (test_type t) ≡ true) where
-  pub result_passes : (kind : OpKind) (operands : List ℕ) (result : ValueType) → HasTensor (class_of kind) → counts_fit kind operands ≡ true → ResultFits (written_by kind).result result
+  pub result_passes : (kind : OpKind) (operands : List ℕ) (result : ValueType) → HasTensor (class_of kind) → counts_fit kind operands ≡ true
+      → ResultFits (written_by kind).result result
       → list_all P (types_in (written_by kind) result) ≡ true → P result ≡ true
   result_passes (Constant x) operands result has counts fits h = subst (λ t. P t ≡ true) (sym fits) (passes_first P x.value_type [] h)
   result_passes (Binary x) operands result has counts fits h = passes_first P result [] h
-  result_passes (Compare x) operands result has counts fits h = subst (λ t. P t ≡ true) (sym fits) (test x.operand_type (passes_first P x.operand_type [] h))
+  result_passes (Compare x) operands result has counts fits h =
+      subst (λ t. P t ≡ true) (sym fits) (test x.operand_type (passes_first P x.operand_type [] h))
   result_passes (Select x) operands result has counts fits h = passes_second P x.condition_type result h
   result_passes (Cast x) operands result has counts fits h = passes_second P x.operand_type result h
   result_passes Empty operands result has counts fits h = passes_first P result [] h
@@ -293,9 +307,12 @@ module _ (P : ValueType → Bool) (test : (t : ValueType) → P t ≡ true → P
   result_passes (Dot x) operands result has counts fits h = passes_last P (operand_types x) result h
   result_passes (Conv1d x) operands result has counts fits h = passes_last P (operand_types x) result h
   result_passes (Conv2d x) operands result has counts fits h = passes_last P (operand_types x) result h
-  result_passes (Transpose x) operands result has counts fits h = subst (λ t. P t ≡ true) (sym fits) (passes_output P x.ins_outs (one_output 1 x.ins_outs (counts_transpose x operands counts)) h)
-  result_passes (Broadcast x) operands result has counts fits h = subst (λ t. P t ≡ true) (sym fits) (passes_output P x.ins_outs (one_output 1 x.ins_outs (counts_broadcast x operands counts)) h)
-  result_passes (Reduce x) operands result has counts fits h = subst (λ t. P t ≡ true) (sym fits) (passes_output P x.ins_outs (one_output 1 x.ins_outs (counts_reduce x operands counts)) h)
+  result_passes (Transpose x) operands result has counts fits h =
+      subst (λ t. P t ≡ true) (sym fits) (passes_output P x.ins_outs (one_output 1 x.ins_outs (counts_transpose x operands counts)) h)
+  result_passes (Broadcast x) operands result has counts fits h =
+      subst (λ t. P t ≡ true) (sym fits) (passes_output P x.ins_outs (one_output 1 x.ins_outs (counts_broadcast x operands counts)) h)
+  result_passes (Reduce x) operands result has counts fits h =
+      subst (λ t. P t ≡ true) (sym fits) (passes_output P x.ins_outs (one_output 1 x.ins_outs (counts_reduce x operands counts)) h)
   result_passes (Generic x) operands result has counts fits h = passes_last P (operand_types x.ins_outs) result h
   result_passes (Sharding x) operands result has counts fits h = absurd has
   result_passes (Shard x) operands result has counts fits h = absurd has
@@ -355,7 +372,9 @@ sound_result scope op v has =
     let s = sound scope op v in
     record {
       spelled = result_passes is_spelled_type test_value op.kind op.operands op.result has s.counts v.result v.spelled;
-      known = is_not (has_differing op.result) (result_passes (λ t. not (has_differing t)) test_known op.kind op.operands op.result has s.counts v.result s.known);
+      known =
+          is_not (has_differing op.result) (result_passes
+          (λ t. not (has_differing t)) test_known op.kind op.operands op.result has s.counts v.result s.known);
       short = result_passes has_few_dims test_short op.kind op.operands op.result has s.counts v.result s.dims;
       small = result_passes has_few_cells test_small op.kind op.operands op.result has s.counts v.result s.cells;
     }

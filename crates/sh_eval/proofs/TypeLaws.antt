@@ -1,16 +1,15 @@
 -- Types that are the same, and tensors of the types that are written for them.
-use Rattle.std.proofs.Common.{◌≡◌, ℕ, suc, Bool, true, false, List, [], ◌∷◌, ◌++◌, map, length, Option, Some, None, refl, ap, ap₂, sym, ◌∙◌, arith, subst}
+use Rattle.std.proofs.Common.{◌≡◌, ℕ, suc, true, List, [], ◌∷◌, ◌++◌, map, length, Option, Some, None, refl, ap, ap₂, sym, ◌∙◌, arith, subst}
 use Rattle.std.proofs.lemmas.Bool.Decides.{nat_tests}
 use Rattle.std.specs.Cmp.Lexicographic.{pointwise}
 use Rattle.std.specs.List.{AllByRecursion, list_all}
-use Rattle.std.specs.Prelude.{◌&&◌, IsSomeAnd, is_some, nat_eq, option_map, option_to_list}
+use Rattle.std.specs.Prelude.{IsSomeAnd, is_some, nat_eq, option_map}
 use Rattle.std.specs.Option.{option_map_or}
 use Rattle.sh_base.specs.Cells.{bits_of}
 use Rattle.sh_base.specs.declared.numbers.Width.{Width}
 use Rattle.sh_base.specs.declared.numbers.Width.TheVariants.{I1, I8, I16, I32, I64}
 use Rattle.sh_ir.specs.declared.types.Dim.{Dim}
 use Rattle.sh_ir.specs.declared.types.Dim.TheVariants.{Known, Differs}
-use Rattle.sh_ir.specs.declared.types.TensorType.{TensorType}
 use Rattle.sh_ir.specs.declared.types.ValueType.{ValueType}
 use Rattle.sh_ir.specs.declared.types.ValueType.TheVariants.{Nothing, Scalar, Tensor, Sharding, Index}
 use Rattle.sh_ir.specs.Agreement.{cell_bits, same_dim, same_type}
@@ -100,7 +99,8 @@ one_type Index Nothing h = absurd (cc)
 one_type Index Sharding h = absurd (cc)
 
 -- types with cells that have so many bits
-pub width_by_bits : (t u : ValueType) → has_value t ≡ true → has_value u ≡ true → nat_eq (cell_bits t) (cell_bits u) ≡ true → width_of t ≡ width_of u
+pub width_by_bits : (t u : ValueType) → has_value t ≡ true → has_value u ≡ true → nat_eq (cell_bits t) (cell_bits u) ≡ true
+    → width_of t ≡ width_of u
 width_by_bits (Tensor t) (Tensor u) a b h = one_width t.width u.width h
 width_by_bits (Tensor t) (Scalar w) a b h = one_width t.width w h
 width_by_bits (Scalar v) (Tensor u) a b h = one_width v u.width h
@@ -171,7 +171,8 @@ AreNamed values [] (n ∷ names) = ⊥
 AreNamed values (type ∷ types) [] = ⊥
 AreNamed values (type ∷ types) (n ∷ names) = IsSomeAnd (values n) (IsOfValueType type) × AreNamed values types names
 
-pub named_both : (values : Values) (types more : List ValueType) (names others : List ℕ) → AreNamed values types names → AreNamed values more others → AreNamed values (types ++ more) (names ++ others)
+pub named_both : (values : Values) (types more : List ValueType) (names others : List ℕ) → AreNamed values types names
+    → AreNamed values more others → AreNamed values (types ++ more) (names ++ others)
 named_both values [] more [] others h k = k
 named_both values [] more (n ∷ names) others h k = absurd h
 named_both values (type ∷ types) more [] others h k = absurd h
@@ -183,7 +184,8 @@ pub record Found (values : Values) (types : List ValueType) (names : List ℕ) :
   pub there : all_there (map values names) ≡ Some ts
   pub typed : AreOfValueTypes types ts
 
-found_next : (values : Values) (type : ValueType) (types : List ValueType) (n : ℕ) (names : List ℕ) (o : Option TensorValue) → values n ≡ o → IsSomeAnd o (IsOfValueType type) → Found values types names
+found_next : (values : Values) (type : ValueType) (types : List ValueType) (n : ℕ) (names : List ℕ) (o : Option TensorValue) → values n ≡ o
+    → IsSomeAnd o (IsOfValueType type) → Found values types names
     → Found values (type ∷ types) (n ∷ names)
 found_next values type types n names None e is rest = absurd is
 found_next values type types n names (Some t) e is rest = record {
@@ -201,21 +203,25 @@ found values (type ∷ types) (n ∷ names) h = found_next values type types n n
 -- ---- values of a scope of the types that are written for them
 
 module _ (scope : List Value) (values : Values) (have : HaveTypes scope values) where
-  pub named_as : (t : ValueType) (n : ℕ) (o : Option Value) → value_named scope n ≡ o → has_value t ≡ true → is_some o ≡ true → option_map_or (λ v. same_type v.value_type t) o true ≡ true
+  pub named_as : (t : ValueType) (n : ℕ) (o : Option Value) → value_named scope n ≡ o → has_value t ≡ true → is_some o ≡ true
+      → option_map_or (λ v. same_type v.value_type t) o true ≡ true
       → IsSomeAnd (values n) (IsOfValueType t)
   named_as t n None e value there same = absurd (cc)
   named_as t n (Some v) e value there same =
       let is = one_type v.value_type t same in
       subst (λ u. IsSomeAnd (values n) (IsOfValueType u)) is (have n v e (subst (λ u. has_value u ≡ true) (sym is) value))
 
-  pub named_by : (types : List ValueType) (names : List ℕ) → length names ≡ length types → list_all has_value types ≡ true → list_all (is_defined scope) names ≡ true
+  pub named_by : (types : List ValueType) (names : List ℕ) → length names ≡ length types → list_all has_value types ≡ true
+      → list_all (is_defined scope) names ≡ true
       → are_of_types scope types names ≡ true → AreNamed values types names
   named_by [] [] long all there same = tt
   named_by [] (n ∷ names) long all there same = absurd (omega (arith, long))
   named_by (t ∷ types) [] long all there same = absurd (omega (arith, long))
   named_by (t ∷ types) (n ∷ names) long all there same = (
-    named_as t n (value_named scope n) refl (both_left (has_value t) (list_all has_value types) all) (both_left (is_defined scope n) (list_all (is_defined scope) names) there)
+    named_as t n (value_named scope n) refl (both_left (has_value t) (list_all has_value types) all)
+        (both_left (is_defined scope n) (list_all (is_defined scope) names) there)
         (both_left (is_of_type scope t n) (are_of_types scope types names) same),
-    named_by types names (let rest : suc (length names) ≡ suc (length types) = long in omega (arith, rest)) (both_right (has_value t) (list_all has_value types) all) (both_right (is_defined scope n) (list_all (is_defined scope) names) there)
+    named_by types names (let rest : suc (length names) ≡ suc (length types) = long in omega (arith, rest))
+        (both_right (has_value t) (list_all has_value types) all) (both_right (is_defined scope n) (list_all (is_defined scope) names) there)
         (both_right (is_of_type scope t n) (are_of_types scope types names) same),
   )

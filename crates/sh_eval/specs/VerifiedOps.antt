@@ -1,5 +1,5 @@
 -- An operation of a verified function in source form, where it stands.
-use Rattle.std.specs.Prelude.{◌≡◌, ℕ, Bool, true, ◌&&◌, List, Some, None, ⊤, MatchOption}
+use Rattle.std.specs.Prelude.{◌≡◌, ℕ, true, List, Some, None, ⊤, MatchOption}
 use Rattle.std.specs.List.{AllByRecursion, list_all}
 use Rattle.sh_base.specs.declared.rules.Rule.{Rule}
 use Rattle.sh_ir.specs.declared.bodies.Body.{Body}
