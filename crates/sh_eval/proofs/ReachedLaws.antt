@@ -22,13 +22,12 @@ use Rattle.sh_ir.specs.Scope.{Scope, scope_after, scope_of}
 use Rattle.sh_ir.specs.Typing.{typing_of}
 use Rattle.sh_ir.specs.Written.{written_by}
 use Rattle.sh_ir.proofs.KeptLaws.{scope_behind}
-use Rattle.sh_pieces.specs.Runs.{argument_under}
 use Rattle.sh_sem.specs.Given.{Giving, alone, given, giving, have_all_extents, of_dims, shape_by, shape_given}
 use Rattle.sh_sem.specs.Meaning.{Values, after_class}
 use Rattle.sh_tensor.specs.Tensor.{TensorValue}
 use Rattle.sh_turns.specs.Program.{all_there}
 use Rattle.sh_eval.specs.Evaluations.{CanEvaluate, FitsKind}
-use Rattle.sh_eval.specs.Reached.{IsReached, values_behind}
+use Rattle.sh_eval.specs.Reached.{IsReachedOp, values_at_start, values_behind}
 use Rattle.sh_eval.specs.Sources.{HaveTypes, IsOfValueType}
 use Rattle.sh_eval.specs.Values.{IsFew, shapes_of}
 use Rattle.sh_eval.specs.VerifiedOps.{HasTensor, IsOfVerifiedOp}
@@ -42,23 +41,26 @@ use Rattle.sh_eval.proofs.TypingLaws.{args_typed, call_gives, none_given, typed_
 
 -- ---- the values before an operation are of their types
 
-types_at : (scope : Scope) (ops : List Op) (k : ℕ) (values after : Values)
-    → ((j : ℕ) (op : Op) → slice_get ops j ≡ Some op → IsOfVerifiedOp (scope_behind scope (take j ops)) op) → HaveTypes scope.values values
-    → values_behind (take k ops) values ≡ Some after → HaveTypes (scope_behind scope (take k ops)).values after
-types_at scope ops zero values after verified have h = subst (HaveTypes scope.values) (same_Some values after h) have
-types_at scope [] (suc k) values after verified have h = subst (HaveTypes scope.values) (same_Some values after h) have
-types_at scope (op ∷ ops) (suc k) values after verified have h =
-    go (after_class (class_of op.kind) op values) refl
-    (λ next e rest. types_at (scope_after scope op) ops k next after (λ j other is. verified (suc j) other is)
+-- each operation of the list is verified where it stands
+abbrev pub AreVerified : Scope → List Op → Type 0
+AreVerified scope ops = (j : ℕ) (op : Op) → slice_get ops j ≡ Some op → IsOfVerifiedOp (scope_behind scope (take j ops)) op
+
+pub types_behind : (scope : Scope) (ops : List Op) (k : ℕ) (values after : Values) → AreVerified scope ops → HaveTypes scope.values values
+    → values_behind k ops values ≡ Some after → HaveTypes (scope_behind scope (take k ops)).values after
+types_behind scope ops zero values after verified have h = subst (HaveTypes scope.values) (same_Some values after h) have
+types_behind scope [] (suc k) values after verified have h = absurd (none-some after h)
+types_behind scope (op ∷ ops) (suc k) values after verified have h =
+    go (after_class (class_of op.kind) op values)
+    (λ next e rest. types_behind (scope_after scope op) ops k next after (λ j other is. verified (suc j) other is)
     (typed_after scope op values next (verified 0 op refl) have e) rest) h
   where
-    go : (o : Option Values) → after_class (class_of op.kind) op values ≡ o
-        → ((next : Values) → after_class (class_of op.kind) op values ≡ Some next → values_behind (take k ops) next ≡ Some after → HaveTypes
-        (scope_behind (scope_after scope op) (take k ops)).values after)
-        → option_and_then (values_behind (take k ops)) o ≡ Some after
+    go : (o : Option Values)
+        → ((next : Values) → o ≡ Some next → values_behind k ops next ≡ Some after
+        → HaveTypes (scope_behind (scope_after scope op) (take k ops)).values after)
+        → option_and_then (values_behind k ops) o ≡ Some after
         → HaveTypes (scope_behind (scope_after scope op) (take k ops)).values after
-    go None e rest f = absurd (none-some after f)
-    go (Some next) e rest f = rest next e f
+    go None rest f = absurd (none-some after f)
+    go (Some next) rest f = rest next refl f
 
 -- what is known where an operation is reached
 record IsTyped (op : Op) (values : Values) : Type 0 where
@@ -66,18 +68,17 @@ record IsTyped (op : Op) (values : Values) : Type 0 where
   verified : IsOfVerifiedOp scope op
   have : HaveTypes scope.values values
 
-typed_there : (f : Func) (arguments : List TensorValue) (op : Op) (values : Values) → IsReached f arguments op values → IsTyped op values
+typed_there : (f : Func) (arguments : List TensorValue) (op : Op) (values : Values) → IsReachedOp f arguments op values → IsTyped op values
 typed_there f arguments op values r =
     let m = r.verified.whole in record {
       scope = scope_behind (scope_of m f) (take r.place f.ops);
       verified = source_op f r.verified r.place op r.stands;
       have =
-          types_at (scope_of m f) f.ops r.place (argument_under (map (λ a. a.id) f.args) arguments) values
-          (λ j other e. source_op f r.verified j other e)
+          types_behind (scope_of m f) f.ops r.place (values_at_start f arguments) values (λ j other e. source_op f r.verified j other e)
           (args_typed m f arguments r.typed) r.before;
     }
 
-pub there_where_reached : (f : Func) (arguments : List TensorValue) (op : Op) (values : Values) → IsReached f arguments op values
+pub there_where_reached : (f : Func) (arguments : List TensorValue) (op : Op) (values : Values) → IsReachedOp f arguments op values
     → HasTensor (class_of op.kind) → IsSome (all_there (map values op.operands))
 there_where_reached f arguments op values r has =
     let t = typed_there f arguments op values r in
@@ -202,7 +203,7 @@ found_types op values ts t has h =
     subst (AreOfValueTypes (all_types t.scope op)) (same_Some found.ts ts (sym found.there ∙ h)) found.typed
 
 pub can_where_reached : (f : Func) (arguments : List TensorValue) (op : Op) (values : Values) (ts : List TensorValue)
-    → IsReached f arguments op values → all_there (map values op.operands) ≡ Some ts → CanEvaluate op alone ts
+    → IsReachedOp f arguments op values → all_there (map values op.operands) ≡ Some ts → CanEvaluate op alone ts
 can_where_reached f arguments op values ts r h =
     let t = typed_there f arguments op values r in
     let s = sound t.scope op t.verified in
@@ -218,7 +219,7 @@ can_where_reached f arguments op values ts r h =
     ]
 
 pub typed_where_reached : (f : Func) (arguments : List TensorValue) (op : Op) (values : Values) (ts : List TensorValue) (t : TensorValue)
-    → IsReached f arguments op values → all_there (map values op.operands) ≡ Some ts
+    → IsReachedOp f arguments op values → all_there (map values op.operands) ≡ Some ts
     → given op alone ts ≡ Some t → IsOfValueType op.result t
 typed_where_reached f arguments op values ts t r h e =
     let known = typed_there f arguments op values r in

@@ -7,7 +7,7 @@ ghost use Rattle.sh_sem.specs.Meaning.{Values};
 ghost use Rattle.sh_tensor.specs.Tensor.{TensorValue};
 ghost use Rattle.sh_turns.specs.Program.{all_there};
 ghost use Rattle.sh_eval.specs.Evaluations.{CanEvaluate};
-ghost use Rattle.sh_eval.specs.Reached.{IsReached};
+ghost use Rattle.sh_eval.specs.Reached.{IsReachedOp};
 ghost use Rattle.sh_eval.specs.Sources.{IsOfValueType};
 ghost use Rattle.sh_eval.specs.VerifiedOps.{HasTensor};
 
@@ -16,13 +16,13 @@ ghost use Rattle.sh_eval.specs.VerifiedOps.{HasTensor};
 /// evaluated on them, and gives a tensor of the type of its value.
 pub fn can_evaluate_laws()
     ensures there { (f : Func) (arguments : List TensorValue) (op : Op) (values : Values)
-        → IsReached f arguments op values → HasTensor (class_of op.kind)
+        → IsReachedOp f arguments op values → HasTensor (class_of op.kind)
         → IsSome (all_there (map values op.operands)) }
     ensures can { (f : Func) (arguments : List TensorValue) (op : Op) (values : Values)
-        (ts : List TensorValue) → IsReached f arguments op values
+        (ts : List TensorValue) → IsReachedOp f arguments op values
         → all_there (map values op.operands) ≡ Some ts → CanEvaluate op alone ts }
     ensures typed { (f : Func) (arguments : List TensorValue) (op : Op) (values : Values)
-        (ts : List TensorValue) (t : TensorValue) → IsReached f arguments op values
+        (ts : List TensorValue) (t : TensorValue) → IsReachedOp f arguments op values
         → all_there (map values op.operands) ≡ Some ts → given op alone ts ≡ Some t
         → IsOfValueType op.result t }
 {}
