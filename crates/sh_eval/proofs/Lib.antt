@@ -22,3 +22,4 @@ pub mod CellFits
 pub mod ResultTypes
 pub mod TypingLaws
 pub mod ReachedLaws
+pub mod SourceExample
