@@ -88,6 +88,7 @@ abbrev AreOf : List ℕ → List Value → Type 0
 AreOf known own = (name : ℕ) → is_among known name ≡ false → value_named own name ≡ None
 
 module _ (outer : List Value) where
+  -- the names of these operands that the region doesn't define
   outside_usable : (own : List Value) (known : List ℕ) (types : List ValueType) (names : List ℕ) → AreOf known own
       → length names ≡ length types → list_all (is_there outer own) names ≡ true
       → stand_for outer own types names ≡ true → list_all (is_usable outer) (outside known names) ≡ true
@@ -189,6 +190,7 @@ captured_by_body scope kind (Some body) kept typed formed =
     (λ name other. are_block scope.values [] body.args body.widths name other refl) kept
     (region_typed scope.values (loop_operands kind) body typed) formed.ops)
 
+-- all names that the region of an operation takes of its function are usable
 pub captured_usable : (scope : Scope) (op : Op) → IsOfVerifiedOp scope op
     → list_all (is_usable scope.values) (captured_in (written_by op.kind)) ≡ true
 unfolding region_faults has_region_in_order
@@ -216,6 +218,7 @@ module _ (scope : List Value) (constants : HaveScalarConstants scope) where
   usable_scalar n None e h = absurd (cc)
   usable_scalar n (Some v) e h = constants n v e h
 
+  -- and are scalars
   pub usable_scalars : (names : List ℕ) → list_all (is_usable scope) names ≡ true → list_all is_scalar (map (type_named scope) names) ≡ true
   usable_scalars [] h = refl
   usable_scalars (n ∷ names) h =
@@ -229,6 +232,7 @@ module _ (scope : List Value) (values : Values) (have : HaveTypes scope values) 
   usable_here n None e h = absurd (cc)
   usable_here n (Some v) e h = have n v e (scalar_value v.value_type (constants n v e h))
 
+  -- their values are there, each of its type
   pub usable_named : (names : List ℕ) → list_all (is_usable scope) names ≡ true → AreNamed values (map (type_named scope) names) names
   usable_named [] h = tt
   usable_named (n ∷ names) h = (
@@ -250,6 +254,7 @@ drop_none zero (x ∷ xs) h = absurd (omega (arith, h))
 drop_none (suc n) [] h = absurd (omega (arith, h))
 drop_none (suc n) (x ∷ xs) h = drop_none n xs (let all : suc (length xs) ≡ suc n + 0 = h in omega (arith, all))
 
+-- the written operands, and behind them those that the region uses
 pub record AreParted (x : Written) (n : ℕ) (operands : List ℕ) : Type 0 where
   pub all : take n operands ++ captured_in x ≡ operands
   pub long : length (take n operands) ≡ n

@@ -37,6 +37,7 @@ use Rattle.sh_eval.proofs.TypeLaws.{one_width}
 
 -- ---- cells of tensors
 
+-- any cell that is read of a tensor is of its width, also past its end
 pub at_within : (t : TensorValue) (i : List ℕ) → IsTensor t → IsCellOf t.width (at t i)
 unfolding at
 at_within t i is = got_within t.width t.cells (flat_of t.shape i) (cells_fit t t.width is refl)
@@ -72,6 +73,7 @@ module _ (shape : List ℕ) (w : Width) (cell : List ℕ → Option Cell)
       let same = same_Some (record { shape = shape; width = w; cells = cells }) t h in
       subst (IsBuilt shape w) same (record { shape_is = refl; width_is = refl; whole = built_whole cells e })
 
+  -- A tensor that is built of such cells is one.
   pub built_typed : (t : TensorValue) → built_of shape w cell ≡ Some t → IsBuilt shape w t
   built_typed t h = built_from (cells_by (λ k. cell (unflat_of shape k)) (cell_count shape)) refl t (sym (built_by shape w cell) ∙ h)
 
@@ -168,11 +170,13 @@ loops_small : (dims : List Followed) (a count : ℕ) → AllByRecursion (λ (d :
 loops_small dims a zero small = tt
 loops_small dims a (suc count) small = (loop_small dims a small, loops_small dims (a + 1) count small)
 
+-- loops are no longer than the dimensions of operands
 pub extents_small : (s : Structure) (shapes : List (List ℕ)) → AllByRecursion Small shapes → Small (extents_by s shapes)
 extents_small s shapes small = loops_small (all_followed (maps_of s) shapes) 0 s.loops (all_followed_small (maps_of s) shapes small)
 
 -- ---- the cells of the inputs
 
+-- each is of the width of its input
 inputs_of : (maps : List LoopMap) (ts : List TensorValue) (p : List ℕ) → length maps ≡ length ts → AllByRecursion IsTensor ts
     → AreCellsOf (widths_of ts) (input_cells maps ts p)
 inputs_of [] [] p long whole = tt
@@ -203,6 +207,7 @@ first_within w [] (a ∷ cells) c same h e = absurd h
 first_within w (v ∷ widths) [] c same h e = absurd h
 first_within w (v ∷ widths) (a ∷ cells) c same h e = subst (IsCellOf w) (same_Some a c e) (subst (λ u. IsCellOf u a) same.0 h.0)
 
+-- a cell that is extended by sign is of the wider width
 extended_within : (v w : Width) (a : Cell) → bits_of v ≤ bits_of w → IsCellOf v a → IsCellOf w (cast_of Extsi v w a)
 extended_within v w a le h =
     elim (cases_eq (bits_of v) (bits_of w)) [
@@ -240,6 +245,7 @@ product_within x cells so_far c fits h here e = go x.widths cells fits h refl e
         (element_of-within Muli x.width (extended x 0 a) (extended x 1 b) first second) f
     go widths (a ∷ b ∷ d ∷ cells) fits h is f = absurd (none-some c f)
 
+-- the next value of the output's cell is of its width
 step_within : (step : Step) (x : Fixed) (scalars : List Width) (p : List ℕ) (cells : List Cell) (so_far c : Cell)
     → FitsStep step x.widths x.width x.captured scalars → AreCellsOf x.widths cells
     → AreCellsOf scalars x.scalars → Small p → IsCellOf x.width so_far → step_cell step x p cells so_far ≡ Some c → IsCellOf x.width c
@@ -252,6 +258,7 @@ step_within (by_region body) x scalars p cells so_far c fits h k small here e =
 
 -- ---- the fold
 
+-- what each step keeps, the fold keeps
 fold_within : {X : Type 0} (w : Width) (F : Option Cell → X → Option Cell) (P : X → Type 0) (points : List X) (o : Option Cell) (c : Cell)
     → ((o : Option Cell) (p : X) → P p → IfSome o (IsCellOf w) → IfSome (F o p) (IsCellOf w)) → AllByRecursion P points
     → IfSome o (IsCellOf w) → fold F o points ≡ Some c → IsCellOf w c
@@ -298,6 +305,7 @@ taken_long zero xs ys x e = refl
 taken_long (suc n) [] ys x e = absurd (cc)
 taken_long (suc n) (y ∷ xs) ys x e = ap suc (taken_long n xs ys x e)
 
+-- The cells of a structured operation are of the width of its result.
 pub nest_within : (s : Structure) (operands : List ℕ) (w : Width) (ts : List TensorValue) (i : List ℕ) (c : Cell) → CanNest s operands w ts
     → AllByRecursion IsTensor ts → AllByRecursion Small (map (λ t. t.shape) ts)
     → nest_cell s (drop (length s.inputs + 1) operands) ts i ≡ Some c → IsCellOf w c

@@ -61,6 +61,7 @@ can_by_bits Extsi m n v w from to h = let l = below_by m n h in omega (arith, fr
 can_by_bits Extui m n v w from to h = let l = below_by m n h in omega (arith, from, to, l)
 can_by_bits Trunci m n v w from to h = let l = below_by n m h in omega (arith, from, to, l)
 
+-- a cast between types that goes the way that its name says goes so between their widths
 pub can_cast : (op : CastOp) (t u : ValueType) → has_value t ≡ true → has_value u ≡ true
     → changes_bits op (cell_bits t) (cell_bits u) ≡ true → CanCast op (width_of t) (width_of u)
 can_cast op t u a b h = can_by_bits op (cell_bits t) (cell_bits u) (width_of t) (width_of u) (bits_are t a) (bits_are u b) h
@@ -92,6 +93,7 @@ contents_held : (t : ValueType) (contents : Contents) → is_held (record { valu
 contents_held t Broken h = tt
 contents_held t (Held cells) h = type_held t cells h
 
+-- the cells of a literal that is held are of the width of its type
 pub constant_held : (x : declared_constant.Constant) → is_held x ≡ true → HoldsCellsOf (width_of x.value_type) x.contents
 constant_held x h = contents_held x.value_type x.contents h
 

@@ -38,6 +38,7 @@ use Rattle.sh_eval.proofs.TypeLaws.{AreOfValueTypes, equal_numbers}
 
 -- ---- values of the operands' types
 
+-- the output's type has tensors
 pub output_value : (inputs : ℕ) (x : InsOuts) (one : OneOutput inputs x) → list_all has_value (operand_types x) ≡ true
     → has_value one.out ≡ true
 output_value inputs x one h =
@@ -61,6 +62,7 @@ record IsProduct (x : InsOuts) (result : ValueType) : Type 0 where
   multiply : can_multiply x ≡ true
   gives : has_output_type x.outs_types result ≡ true
 
+-- the common part of products and convolutions
 product_nests : (x : InsOuts) (loops : ℕ) (first second output : LoopMap) (operands : List ℕ) (result : ValueType) (ts : List TensorValue)
     → IsProduct x result → loops ≤ max_rank
     → all_follow_loops loops (first ∷ second ∷ output ∷ []) ≡ true → AreOfValueTypes (operand_types x ++ []) ts
@@ -224,6 +226,7 @@ all_listed n numbers k long below distinct l =
           absurd (omega (arith, few, long))
     ]
 
+-- a number of the list has a place in it
 place_below : (k : ℕ) (numbers : List ℕ) → is_among numbers k ≡ true → position_or_len (nat_eq k) numbers < length numbers
 place_below k [] h = absurd (cc)
 place_below k (m ∷ numbers) h =
@@ -253,6 +256,7 @@ naturals_below n (z ∷ zs) h =
 
 -- ---- few loops
 
+-- the output has few dimensions
 pub output_short : (inputs : ℕ) (x : InsOuts) (more : List ValueType) → OneOutput inputs x
     → list_all has_few_dims (operand_types x ++ more) ≡ true → output_rank x ≤ max_rank
 unfolding has_few_dims
@@ -263,6 +267,7 @@ output_short inputs x more one h =
     let le : rank_of one.out ≤ max_rank = grind (arith, nat_tests) in
     subst (λ t. rank_of t ≤ max_rank) (sym (first_is inputs x one)) le
 
+-- and so has the input
 pub input_short : (x : InsOuts) (more : List ValueType) → list_all has_few_dims (operand_types x ++ more) ≡ true → input_rank x ≤ max_rank
 unfolding has_few_dims
 input_short x more h = go x.ins_types (all_front has_few_dims x.ins_types x.outs_types (all_front has_few_dims (operand_types x) more h))
@@ -286,6 +291,7 @@ record IsCopy (x : InsOuts) (result : ValueType) : Type 0 where
   bits : all_of_bits x ≡ true
   gives : has_output_type x.outs_types result ≡ true
 
+-- the common part of fills, transpositions and broadcasts
 copy_nests : (x : InsOuts) (input : LoopMap) (operands : List ℕ) (result : ValueType) (ts : List TensorValue) → IsCopy x result
     → output_rank x ≤ max_rank → follows_loops (output_rank x) input ≡ true
     → AreOfValueTypes (operand_types x ++ []) ts → CanNest (copy x input) operands (width_of result) ts

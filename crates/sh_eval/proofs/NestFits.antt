@@ -29,6 +29,7 @@ record HaveParts (n : ℕ) (ins : List ValueType) (out : ValueType) (more : List
   output : AllByRecursion (λ (t : TensorValue). t.width ≡ width_of out) (take 1 (drop n ts))
   scalars : widths_of (drop (suc n) ts) ≡ map width_of more
 
+-- by the types of the inputs, of the output and of the scalars
 have_parts : (n : ℕ) (ins : List ValueType) (out : ValueType) (more : List ValueType) (ts : List TensorValue) → n ≡ length ins
     → AreOfValueTypes (ins ++ out ∷ more) ts → HaveParts n ins out more ts
 have_parts zero [] out more [] long h = absurd h
@@ -51,6 +52,7 @@ pub record IsNestOf (s : Structure) (result : ValueType) : Type 0 where
   pub few : s.loops ≤ max_rank
   pub follow : all_follow_loops s.loops (maps_of s) ≡ true
 
+-- An operation can be folded on operands of its types, where its step fits their widths.
 pub can_nest : (s : Structure) (operands : List ℕ) (result : ValueType) (more : List ValueType) (ts : List TensorValue) → IsNestOf s result
     → AreOfValueTypes (operand_types s.ins_outs ++ more) ts
     → FitsStep s.step (map width_of s.ins_outs.ins_types) (width_of result) (drop (length s.inputs + 1) operands) (map width_of more)
@@ -76,6 +78,7 @@ can_nest s operands result more ts is typed step =
 
 -- ---- the output's type
 
+-- the result has the width of the output
 pub output_width : (x : InsOuts) (out result : ValueType) → x.outs_types ≡ out ∷ [] → has_value out ≡ true → has_value result ≡ true
     → has_output_type x.outs_types result ≡ true → width_of out ≡ width_of result
 unfolding types_agree
@@ -87,6 +90,7 @@ output_width x out result outs a b h =
 
 -- ---- maps
 
+-- a map to loops that there are follows them
 pub single_follows : (n : ℕ) (loops : List ℕ) → list_all (λ l. nat_lt l n) loops ≡ true → follows_loops n (single loops) ≡ true
 single_follows n [] h = refl
 single_follows n (l ∷ loops) h =
@@ -96,6 +100,7 @@ single_follows n (l ∷ loops) h =
 
 -- ---- steps
 
+-- the factors of a product are no wider than its output
 pub widths_not_more : (out : ValueType) (w : Width) (ins : List ValueType) → has_value out ≡ true → width_of out ≡ w
     → list_all has_value ins ≡ true
     → list_all (λ t. nat_le (cell_bits t) (cell_bits out)) ins ≡ true → AllByRecursion (λ v. bits_of v ≤ bits_of w) (map width_of ins)
@@ -110,6 +115,7 @@ widths_not_more out w (t ∷ ins) value same values h =
           (both_right (nat_le (cell_bits t) (cell_bits out)) (list_all (λ u. nat_le (cell_bits u) (cell_bits out)) ins) h),
     )
 
+-- what is copied has the width of the output
 pub widths_alike : (out : ValueType) (w : Width) (ins : List ValueType) → has_value out ≡ true → width_of out ≡ w
     → list_all has_value ins ≡ true → list_all (same_bits out) ins ≡ true
     → AllByRecursion (λ v. v ≡ w) (map width_of ins)

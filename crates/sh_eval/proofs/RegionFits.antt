@@ -85,6 +85,7 @@ module _ (outer : List Value) where
   Reads own names widths =
       (name k : ℕ) → last_place names name ≡ Some k → slice_get widths k ≡ width_named (value_named own name) (value_named outer name)
 
+  -- so an operand that stands for a type is read at its width
   source_fits : (own : List Value) (names : List (Option ℕ)) (widths : List Width) (t : ValueType) (name : ℕ) → Reads own names widths
       → stands_for outer own t name ≡ true
       → IsSourceOf widths (region_width t) (last_place names name)
@@ -129,6 +130,7 @@ module _ (outer : List Value) where
   get_last [] w = refl
   get_last (v ∷ widths) w = get_last widths w
 
+  -- a value is defined
   reads_more : (own : List Value) (names : List (Option ℕ)) (widths : List Width) (n : ℕ) (t : ValueType) (w : Width) → w ≡ region_width t
       → length names ≡ length widths → Reads own names widths
       → Reads (plain_value n t ∷ own) (names ++ Some n ∷ []) (widths ++ w ∷ [])
@@ -147,6 +149,7 @@ module _ (outer : List Value) where
       let b = length-append widths (w ∷ []) in
       a ∙ ap (λ k. k + 1) sizes ∙ sym b
 
+  -- the block arguments are defined
   reads_block : (own : List Value) (names : List (Option ℕ)) (widths : List Width) (args : List ℕ) (ws : List Width)
       → length args ≡ length ws → length names ≡ length widths → Reads own names widths
       → Reads (with_block own args ws) (names ++ map (λ n. Some n) args) (widths ++ ws)
@@ -173,6 +176,7 @@ module _ (outer : List Value) where
   captured_width None h scalar = absurd (cc)
   captured_width (Some v) h scalar = ap (λ w. Some w) (sym (scalar_width v.value_type (scalar v refl)))
 
+  -- at first there are the scalars of the function
   reads_captured : HaveScalarConstants outer → (captured : List ℕ) → list_all (is_usable outer) captured ≡ true
       → Reads [] (map (λ n. Some n) captured) (map width_of (map (type_named outer) captured))
   reads_captured constants [] usable name k e = absurd (none-some k e)
@@ -200,6 +204,7 @@ module _ (outer : List Value) where
 
   -- ---- operations
 
+  -- an operation of the region finds its operands at the widths at which it works
   body_fits : (own : List Value) (names : List (Option ℕ)) (widths : List Width) (kind : BodyKind) (operands : List ℕ) (result : ValueType)
       → Reads own names widths → is_scalar_op kind result ≡ true
       → stand_for outer own (body_typing kind result) operands ≡ true → length operands ≡ length (body_typing kind result)
@@ -230,6 +235,7 @@ module _ (outer : List Value) where
   body_fits own names widths IndexCast operands result reads scalar stand long fits held =
       sources_fit own names widths I64 (value_type.Index ∷ []) operands reads (refl, tt) long stand
 
+  -- and gives a value of the width of its type
   given_width : (kind : BodyKind) (result : ValueType) → is_scalar_op kind result ≡ true → ResultFits (written_in_body kind).result result
       → width_given kind result ≡ region_width result
   unfolding is_scalar_op width_given
@@ -248,6 +254,7 @@ module _ (outer : List Value) where
     ops_fit : FitOps widths (placed_ops names ops)
     yields_fit : IsSourceOf (widths_after widths (placed_ops names ops)) w (last_place (names ++ map (λ op. Some op.defines) ops) yields)
 
+  -- So do these operations one after the other, and what is yielded is of its width.
   ops_fit_from : (own : List Value) (names : List (Option ℕ)) (widths : List Width) (ops : List BodyOp) (yields : ℕ) (w : Width)
       → length names ≡ length widths → Reads own names widths
       → are_typed outer own ops yields w ≡ true → AllByRecursion IsBodyOp ops → OpsFit own names widths ops yields w
@@ -283,6 +290,7 @@ module _ (outer : List Value) where
 by_bits : (v w : Width) → bits_of v ≡ bits_of w → v ≡ w
 by_bits v w h = one_width v w (grind (arith, nat_tests))
 
+-- the block arguments have the widths of the operands
 block_widths : (widths : List Width) (types : List ValueType) → list_all has_value types ≡ true
     → pointwise (λ w t. nat_eq (bits_of w) (cell_bits t)) widths types ≡ true → widths ≡ map width_of types
 block_widths [] [] values h = refl
@@ -309,7 +317,9 @@ names_both : (xs ys : List ℕ) → map (λ n. Some n) (xs ++ ys) ≡ map (λ n.
 names_both [] ys = refl
 names_both (x ∷ xs) ys = ap (λ ns. Some x ∷ ns) (names_both xs ys)
 
--- The inputs are of types `ins`, the output is of type `out` and width `w`.
+-- The inputs are of types `ins`, the output is of type `out` and width `w`. The scalars and the block arguments are read at their
+-- widths, which are those of the operands; then so are the operations, from the first to what is yielded; and the names that
+-- stand first are the scalars' and the block's.
 pub region_fits_widths : (outer : List Value) (body : Body) (captured : List ℕ) (ins : List ValueType) (out : ValueType) (w : Width)
     → HaveScalarConstants outer → list_all (is_usable outer) captured ≡ true
     → IsBody body → list_all has_value (ins ++ out ∷ []) ≡ true → has_value out ≡ true → width_of out ≡ w

@@ -281,6 +281,7 @@ scalars_spelled (t ∷ types) more h k =
     let rest = scalars_spelled types more (both_right (is_spelled_type t) (list_all is_spelled_type types) h) k in
     rw (here, rest) refl
 
+-- the extents of all operands
 operands_small : (scope : Scope) (op : Op) (ts : List TensorValue) → IsOfVerifiedOp scope op → HasTensor (class_of op.kind)
     → AreOfValueTypes (all_types scope op) ts → AllByRecursion Small (map (λ t. t.shape) ts)
 operands_small scope op ts v has typed =
@@ -295,6 +296,7 @@ no_extents : (shape : List ℕ) → have_extents [] shape ≡ true → shape ≡
 no_extents [] h = refl
 no_extents (n ∷ shape) h = absurd (cc)
 
+-- a tensor of the extents and the width of a type is of the type
 of_type : (result : ValueType) (shape : List ℕ) (t : TensorValue) → IsSoundResult result → have_extents (dims_of result) shape ≡ true
     → IsBuilt shape (width_of result) t → IsOfValueType result t
 of_type (value_type.Tensor type) shape t sound h is =

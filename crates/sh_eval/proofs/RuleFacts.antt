@@ -87,6 +87,7 @@ in_source : (a b : Bool) (F : List ℕ → Bool) (device : Option (List ℕ)) �
 in_source a b F None e h = both_right a b h
 in_source a b F (Some g) e h = absurd (cc)
 
+-- each rule, taken from what the operation keeps
 pub sound : (scope : Scope) (op : Op) → IsOfVerifiedOp scope op → Sound scope op
 unfolding keeps takes_operands is_in_form uses_defined
 sound scope op v =
@@ -127,6 +128,7 @@ arity_typed x h =
 arity_named : (inputs : ℕ) (x : InsOuts) → names inputs x ≡ true → Some (x.ins_count + x.outs_count) ≡ Some (length (operand_types x))
 arity_named inputs x h = arity_typed x (both_right (nat_eq x.ins_count inputs && nat_eq x.outs_count 1) (names_typed x) h)
 
+-- the form has as many operands as there are types for them
 pub arity : (kind : OpKind) (operands : List ℕ) (result : ValueType) → HasTensor (class_of kind) → counts_fit kind operands ≡ true
     → (written_by kind).operands ≡ Some (length (typing_of kind result))
 unfolding counts_fit typing_of
@@ -194,6 +196,7 @@ passes_second P t u h = passes_first P u [] (both_right (P t) (list_all P (u ∷
 pub passes_last : (P : ValueType → Bool) (ts : List ValueType) (t : ValueType) → list_all P (ts ++ t ∷ []) ≡ true → P t ≡ true
 passes_last P ts t h = passes_first P t [] (all_back P ts (t ∷ []) h)
 
+-- of the types of the operands
 pub typing_passes : (P : ValueType → Bool) (kind : OpKind) (result : ValueType) → HasTensor (class_of kind)
     → list_all P (types_in (written_by kind) result) ≡ true → list_all P (typing_of kind result) ≡ true
 unfolding typing_of
@@ -236,6 +239,7 @@ typing_passes P (Join x) result has h = absurd has
 typing_passes P (Call x) result has h = absurd has
 typing_passes P (Return x) result has h = absurd has
 
+-- so values of these types have tensors
 pub typing_values : (kind : OpKind) (result : ValueType) → HasTensor (class_of kind)
     → list_all is_spelled_type (types_in (written_by kind) result) ≡ true → list_all has_value (typing_of kind result) ≡ true
 typing_values kind result has h = spelled_values (typing_of kind result) (typing_passes is_spelled_type kind result has h)
@@ -251,6 +255,7 @@ one_of [] h = absurd (omega (arith, h))
 one_of (t ∷ []) h = refl
 one_of (t ∷ u ∷ ts) h = absurd (omega (arith, h))
 
+-- by the number of operands that the kind takes
 pub one_output : (inputs : ℕ) (x : InsOuts) → names inputs x ≡ true → OneOutput inputs x
 one_output inputs x h =
     let counts = both_left (nat_eq x.ins_count inputs && nat_eq x.outs_count 1) (names_typed x) h in
@@ -367,6 +372,7 @@ pub record IsSoundResult (result : ValueType) : Type 0 where
   pub short : has_few_dims result ≡ true
   pub small : has_few_cells result ≡ true
 
+-- the type of the result is spelled, known, short and small
 pub sound_result : (scope : Scope) (op : Op) → IsOfVerifiedOp scope op → HasTensor (class_of op.kind) → IsSoundResult op.result
 sound_result scope op v has =
     let s = sound scope op v in

@@ -68,6 +68,7 @@ one_shape (d ∷ ds) (e ∷ es) h =
     ap₂ ◌∷◌ (one_dim d e (both_left (same_dim d e) (pointwise same_dim ds es) h))
     (one_shape ds es (both_right (same_dim d e) (pointwise same_dim ds es) h))
 
+-- two types that the test of rules takes for the same are one
 pub one_type : (t u : ValueType) → same_type t u ≡ true → t ≡ u
 one_type (Tensor t) (Tensor u) h =
     ap₂ (λ dims w. Tensor (record { dims = dims; width = w }))
@@ -145,6 +146,7 @@ AreOfValueTypes [] (t ∷ ts) = ⊥
 AreOfValueTypes (type ∷ types) [] = ⊥
 AreOfValueTypes (type ∷ types) (t ∷ ts) = IsOfValueType type t × AreOfValueTypes types ts
 
+-- the widths of tensors are those of their types
 pub typed_widths : (types : List ValueType) (ts : List TensorValue) → AreOfValueTypes types ts → map (λ t. t.width) ts ≡ map width_of types
 typed_widths [] [] h = refl
 typed_widths [] (t ∷ ts) h = absurd h
@@ -171,6 +173,7 @@ AreNamed values [] (n ∷ names) = ⊥
 AreNamed values (type ∷ types) [] = ⊥
 AreNamed values (type ∷ types) (n ∷ names) = IsSomeAnd (values n) (IsOfValueType type) × AreNamed values types names
 
+-- names of values of these types, one list behind the other
 pub named_both : (values : Values) (types more : List ValueType) (names others : List ℕ) → AreNamed values types names
     → AreNamed values more others → AreNamed values (types ++ more) (names ++ others)
 named_both values [] more [] others h k = k
@@ -194,6 +197,7 @@ found_next values type types n names (Some t) e is rest = record {
   typed = (is, rest.typed);
 }
 
+-- values that are named so are there, each of its type
 pub found : (values : Values) (types : List ValueType) (names : List ℕ) → AreNamed values types names → Found values types names
 found values [] [] h = record { ts = []; there = refl; typed = tt }
 found values [] (n ∷ names) h = absurd h
@@ -211,6 +215,7 @@ module _ (scope : List Value) (values : Values) (have : HaveTypes scope values) 
       let is = one_type v.value_type t same in
       subst (λ u. IsSomeAnd (values n) (IsOfValueType u)) is (have n v e (subst (λ u. has_value u ≡ true) (sym is) value))
 
+  -- by the rules on operands: each is defined, and of the type that is written for it
   pub named_by : (types : List ValueType) (names : List ℕ) → length names ≡ length types → list_all has_value types ≡ true
       → list_all (is_defined scope) names ≡ true
       → are_of_types scope types names ≡ true → AreNamed values types names

@@ -77,6 +77,7 @@ record HasOwn (op : Op) (values after : Values) (own : Option TensorValue) : Typ
   is : own ≡ Some t
   after_is : with_value op.defines t values ≡ after
 
+-- an operation that is done has a value
 has_own : (op : Op) (values after : Values) (own : Option TensorValue) → with_own op values own ≡ Some after → HasOwn op values after own
 has_own op values after None h = absurd (none-some after h)
 has_own op values after (Some t) h = record { t = t; is = refl; after_is = same_Some (with_value op.defines t values) after h }
@@ -159,6 +160,7 @@ pub call_gives : (x : declared_call.Call) (operands : List ℕ) (result : ValueT
 unfolding giving
 call_gives x operands result = refl
 
+-- what gives nothing by its kind gives nothing
 pub none_given : (op : Op) (ts : List TensorValue) (t : TensorValue) → giving op.kind op.operands op.result alone ≡ None
     → given op alone ts ≡ Some t → ⊥
 none_given op ts t none h =
