@@ -22,4 +22,5 @@ pub mod CellFits
 pub mod ResultTypes
 pub mod TypingLaws
 pub mod ReachedLaws
+pub mod AskedRules
 pub mod SourceExample

@@ -5,8 +5,6 @@ use Rattle.sh_base.specs.declared.numbers.Cell.TheVariants.{Val}
 use Rattle.sh_base.specs.declared.numbers.Width.TheVariants.{I32}
 use Rattle.sh_base.specs.declared.operations.BinOp.TheVariants.{Addi}
 use Rattle.sh_base.specs.declared.places.Place.{Place}
-use Rattle.sh_base.specs.declared.rules.Rule.{Rule}
-use Rattle.sh_base.specs.declared.rules.Rule.TheVariants.{B1, B2, B3, P1, P2, P3, L1, L2, L3, L4, L5, L6, L7, L8, L9, L10, V1, V2, V3, V4, V5, V6, V7, V8, V9, V10, V11, A1, A2, A3, A5, A6, A7, A8, A9, A10, C1, C2, C3, N1, N2, N3, N4, U1, U2, E1, E2, K1, K2, K3, K4}
 use Rattle.sh_ir.specs.declared.arith_ops.Contents.TheVariants.{Held}
 use Rattle.sh_ir.specs.declared.bodies.Body.{Body}
 use Rattle.sh_ir.specs.declared.bodies.BodyKind.TheVariants as body_kind
@@ -20,7 +18,7 @@ use Rattle.sh_ir.specs.declared.operations.OpKind.TheVariants as op_kind
 use Rattle.sh_ir.specs.declared.types.Dim.TheVariants.{Known}
 use Rattle.sh_ir.specs.declared.types.ValueType.{ValueType}
 use Rattle.sh_ir.specs.declared.types.ValueType.TheVariants as value_type
-use Rattle.sh_ir.specs.Faults.{KeepsModule, faults_by, func_faults, has_form, keeps_func, keeps_return, returned_types}
+use Rattle.sh_ir.specs.Faults.{faults_by, func_faults, has_form, keeps_func, keeps_return, returned_types}
 use Rattle.sh_ir.specs.Formed.{IsFormed}
 use Rattle.sh_ir.specs.Agreement.{same_types, types_agree}
 use Rattle.sh_ir.specs.Attributes.{numbers_fit}
@@ -33,6 +31,7 @@ use Rattle.sh_ir.specs.Results.{result_fits}
 use Rattle.sh_ir.specs.Rules.{calls_source, defines_new, has_region_in_order, is_in_form, keeps, names_known, op_faults, region_faults, takes_operands, uses_defined}
 use Rattle.sh_ir.specs.Typing.{counts_fit, tensor_types, typing_of}
 use Rattle.sh_eval.specs.Sources.{IsOfSource}
+use Rattle.sh_eval.proofs.AskedRules.{KeepsAsked, of_source}
 
 abbrev on_line : ℕ → Place
 on_line line = record { line = line; column = 5 }
@@ -71,7 +70,14 @@ one_each = record { ins_count = 1; ins_types = vector ∷ []; outs_count = 1; ou
 
 abbrev sum : Op
 sum = record {
-  kind = op_kind.Generic (record { ins_outs = one_each; indexing_maps = identity ∷ identity ∷ []; iterator_types = Parallel ∷ []; body = sum_body });
+  kind =
+      op_kind.Generic (record {
+        ins_outs = one_each;
+        indexing_maps = identity ∷ identity ∷ [];
+        iterator_types = Parallel ∷ [];
+        body =
+            sum_body;
+      });
   operands = 0 ∷ 0 ∷ 1 ∷ [];
   defines = Some 2;
   result = vector;
@@ -123,59 +129,30 @@ formed_example = record {
   body_names = refl;
 }
 
-keeps_example : (rule : Rule) → KeepsModule rule example_module
-unfolding faults_by func_faults keeps_func has_form keeps_return returned_types same_types types_agree numbers_fit has_few_cells has_few_dims has_few_inputs has_few_loops operation_count generic_of structure_of has_all_maps is_projection iterators_fit maps_fit operands_follow extents_fit operands_fit body_number_fits body_typing is_scalar_op keeps_at_yield keeps_in_region region_fits result_fits calls_source defines_new has_region_in_order is_in_form keeps names_known op_faults region_faults takes_operands uses_defined counts_fit tensor_types typing_of
-keeps_example B1 = refl
-keeps_example B2 = refl
-keeps_example B3 = refl
-keeps_example P1 = refl
-keeps_example P2 = refl
-keeps_example P3 = refl
-keeps_example L1 = refl
-keeps_example L2 = refl
-keeps_example L3 = refl
-keeps_example L4 = refl
-keeps_example L5 = refl
-keeps_example L6 = refl
-keeps_example L7 = refl
-keeps_example L8 = refl
-keeps_example L9 = refl
-keeps_example L10 = refl
-keeps_example V1 = refl
-keeps_example V2 = refl
-keeps_example V3 = refl
-keeps_example V4 = refl
-keeps_example V5 = refl
-keeps_example V6 = refl
-keeps_example V7 = refl
-keeps_example V8 = refl
-keeps_example V9 = refl
-keeps_example V10 = refl
-keeps_example V11 = refl
-keeps_example A1 = refl
-keeps_example A2 = refl
-keeps_example A3 = refl
-keeps_example A5 = refl
-keeps_example A6 = refl
-keeps_example A7 = refl
-keeps_example A8 = refl
-keeps_example A9 = refl
-keeps_example A10 = refl
-keeps_example C1 = refl
-keeps_example C2 = refl
-keeps_example C3 = refl
-keeps_example N1 = refl
-keeps_example N2 = refl
-keeps_example N3 = refl
-keeps_example N4 = refl
-keeps_example U1 = refl
-keeps_example U2 = refl
-keeps_example E1 = refl
-keeps_example E2 = refl
-keeps_example K1 = refl
-keeps_example K2 = refl
-keeps_example K3 = refl
-keeps_example K4 = refl
+keeps_example : KeepsAsked example_module
+unfolding faults_by func_faults keeps_func has_form keeps_return returned_types same_types types_agree numbers_fit has_few_cells
+    has_few_dims has_few_inputs has_few_loops operation_count generic_of structure_of has_all_maps is_projection iterators_fit maps_fit
+    operands_follow extents_fit operands_fit body_number_fits body_typing is_scalar_op keeps_at_yield keeps_in_region region_fits result_fits
+    calls_source defines_new has_region_in_order is_in_form keeps names_known op_faults region_faults takes_operands uses_defined counts_fit
+    tensor_types typing_of
+keeps_example = record {
+  keeps_L2 = refl;
+  keeps_L3 = refl;
+  keeps_L4 = refl;
+  keeps_L5 = refl;
+  keeps_L6 = refl;
+  keeps_L7 = refl;
+  keeps_V1 = refl;
+  keeps_V2 = refl;
+  keeps_V3 = refl;
+  keeps_V4 = refl;
+  keeps_V5 = refl;
+  keeps_V6 = refl;
+  keeps_V7 = refl;
+  keeps_V8 = refl;
+  keeps_V9 = refl;
+  keeps_V10 = refl;
+}
 
 pub example_of_source : IsOfSource example_func
-example_of_source = record { whole = example_module; formed = formed_example; keeps = keeps_example; place = 0; stands = refl; source = refl }
+example_of_source = of_source example_module 0 example_func formed_example keeps_example refl refl
