@@ -5,12 +5,12 @@ use Rattle.std.specs.Prelude.{◌==◌, ◌&&◌, ◌^◌, All, IfSome, option_m
 use Rattle.std.proofs.lemmas.List.{length-map}
 use Rattle.std.specs.List.{AllByRecursion}
 use Rattle.sh_base.specs.Cells.{IsCellOf, bits_of}
-use Rattle.sh_base.specs.Shape.{cell_count, IsIndexOf, flat_of, unflat_of}
+use Rattle.sh_base.specs.Shape.{cell_count, IsIndexOf, flat_of, max_cells, unflat_of}
 use Rattle.sh_base.specs.declared.numbers.Cell.{Cell}
 use Rattle.sh_base.specs.declared.numbers.Cell.TheVariants.{Undef}
 use Rattle.sh_base.specs.declared.numbers.Width.{Width}
 use Rattle.sh_ir.specs.Loops.{LoopMap, Step, Structure, copied, product_added, by_region, structure_of}
-use Rattle.sh_tensor.specs.Tensor.{IsTensor, TensorValue, at}
+use Rattle.sh_tensor.specs.Tensor.{IsHeld, IsTensor, TensorValue, at}
 use Rattle.sh_loops.specs.declared.steps.PointStep as declared
 use Rattle.sh_loops.specs.declared.steps.PointStep.TheVariants.{Copied, ProductAdded, Yielded}
 use Rattle.sh_loops.specs.declared.loops.Loops as loops_memory
@@ -21,13 +21,16 @@ use Rattle.sh_loops.specs.Sizes.{agree_on, agreed_extents, extent_by, extents_wi
 use Rattle.std.proofs.lemmas.Bool.{cases_Bool}
 use Rattle.std.proofs.lemmas.Option.{none-some, same_Some}
 use Rattle.sh_loops.specs.Nests.{AreInside, CanFold, StandsFor, TakesCells, all_follow_loops, next_by, structured_value}
+use Rattle.sh_loops.specs.NestSizes.{nest_size}
+use Rattle.sh_loops.specs.declared.nest_sizes.NestSize.{NestSize}
 use Rattle.sh_loops.specs.Placing.{AreCellsOf}
 use Rattle.sh_loops.specs.Structured.{CanFoldParts, CanNest, FitsStep, IsOfStructure, IsStep, fixed_by, value_by, widths_of}
+use Rattle.sh_loops.proofs.CountLaws.{points_below}
 use Rattle.sh_loops.proofs.FormulaLaws.{cells_fit}
 use Rattle.sh_loops.proofs.InsideLaws.{agreeing_inside}
 use Rattle.std.specs.List.{range_with_len}
 use Rattle.sh_loops.proofs.PlacedLaws.{alike_region, alike_runs, can_run, region_within}
-use Rattle.sh_sem.specs.Given.{built_of, fixed_of, gives_nest, nest_cell, of_one, outs_of}
+use Rattle.sh_sem.specs.Given.{built_of, fixed_of, gives_nest, nest_cell, nest_shape, of_one, outs_of}
 use Rattle.sh_sem.specs.Nest.{Fixed, all_followed, extent_of_loop, extents_by, folded_cell, followed, has_room, have_ranks, index_at, input_cells, maps_of, sizes_agree, step_cell}
 use Rattle.sh_sem.specs.Region.{placed, region_cell}
 
@@ -311,6 +314,20 @@ take-short (suc n) (x ∷ xs) = let rest = take-short n xs in omega (arith, rest
 no_shape : (ranks room : Bool) (o : Option (List ℕ)) → ranks ≡ false → (if ranks && room then o else None) ≡ None
 no_shape ranks room o e = rw e refl
 
+-- there is no output
+pub unsized_few : (s : Structure) (loops : loops_memory.Loops) (ts : List TensorValue) (n : ℕ) → loops ≡ loops_in s → n ≡ length loops.inputs → length ts ≤ n
+    → None ≡ nest_size (map (λ t. t.shape) ts) s
+unfolding nest_size
+unsized_few s loops ts n is long less =
+    let shapes = map (λ t. t.shape) ts in
+    let inputs : length loops.inputs ≡ length s.inputs = ap (λ (l : loops_memory.Loops). length l.inputs) is in
+    let short = take-short (length s.inputs + 1) shapes in
+    let count = maps_long s.inputs s.output in
+    let same = length-map ts (λ t. t.shape) in
+    sym (ap (option_map (λ shape. record { shape = shape; points = cell_count (extents_by s shapes) }))
+    (no_shape (have_ranks (maps_of s) (take (length s.inputs + 1) shapes)) _ (of_one (λ z. Some z) (outs_of s shapes))
+    (few_ranks (maps_of s) (take (length s.inputs + 1) shapes) (omega (arith, short, count, same, less, long, inputs)))))
+
 pub too_few : (s : Structure) (operands : List ℕ) (w : Width) (ts : List TensorValue) → length ts ≤ length s.inputs → None ≡ value_by (gives_nest operands s) w ts
 unfolding gives_nest
 too_few s operands w ts few =
@@ -507,6 +524,68 @@ module _ {B : Type 0} (f : B → TensorValue) (kind : OpKind) (loops : loops_mem
       ∙ ap (λ sc. structured_value s (fixed_by (drop (n + 1) operands) (map f (take n xs)) (f o) (map f sc)) E (map f (take n xs)) (f o)) scalars_are
       ∙ value_of_parts kind loops operands w (map f xs) (map f (take n xs)) (f o) (map f (drop (n + 1) xs)) E n s known long (parted f xs n o below first_other) e
 
+-- ---- how large it is
+
+few_held : (ts : List TensorValue) → All IsHeld ts → AllByRecursion (λ (t : TensorValue). cell_count t.shape ≤ max_cells) ts
+few_held [] held = tt
+few_held (t ∷ ts) held = ((held 0 t (omega arith)).small, few_held ts (λ k d l. held (suc k) d (omega (arith, l))))
+
+abbrev sized_by : List ℕ → ℕ → NestSize
+sized_by shape points = record { shape = shape; points = points }
+
+pub output_shape : (o : TensorValue) (shape : List ℕ) (points : ℕ) → shape ≡ o.shape → Some (sized_by shape points) ≡ Some (sized_by o.shape points)
+output_shape o shape points e = ap (λ z. Some (sized_by z points)) e
+
+-- as a call parts the operands of a structure with these loops
+module _ {B : Type 0} (f : B → TensorValue) (loops : loops_memory.Loops) (s : Structure) (is : loops ≡ loops_in s) (maps : List LoopMap) (xs : List B) (n : ℕ) (o : B) (typed others : List B)
+    (long : n ≡ length loops.inputs) (below : n < length xs) (typed_are : typed ≡ take (n + 1) xs) (others_are : others ≡ drop n xs) (first : o ≡ get_or others 0 o)
+    (maps_is : maps ≡ loops.inputs ++ loops.output ∷ []) where
+  inputs_long : length s.inputs ≡ length (map f (take n xs))
+  inputs_long = sym (long ∙ ap (λ (l : loops_memory.Loops). length l.inputs) is) ∙ sym (front_long f xs n below)
+
+  output_first : o ≡ get_or (drop n xs) 0 o
+  output_first = first ∙ ap (λ ys. get_or ys 0 o) others_are
+
+  sized_parts : AreParts s (map f (take n xs)) (f o) (map f (drop (n + 1) xs))
+  sized_parts = parts s (map f (take n xs)) (f o) (map f (drop (n + 1) xs)) inputs_long
+
+  all_parts : map f xs ≡ map f (take n xs) ++ f o ∷ map f (drop (n + 1) xs)
+  all_parts = parted f xs n o below output_first
+
+  sized_typed : map f typed ≡ map f (take n xs) ++ f o ∷ []
+  sized_typed = ap (map f) typed_are ∙ parted_front f xs n o below output_first
+
+  agreed_parts : agreed_extents maps (map f typed) loops.count ≡ agreed_extents (maps_of s) (map f (take n xs) ++ f o ∷ []) s.loops
+  agreed_parts =
+      ap₂ (λ ms ts. agreed_extents ms ts loops.count) (maps_is ∙ ap (λ (l : loops_memory.Loops). l.inputs ++ l.output ∷ []) is) sized_typed
+      ∙ ap (λ (l : loops_memory.Loops). agreed_extents (maps_of s) (map f (take n xs) ++ f o ∷ []) l.count) is
+
+  pub sized : (E : List ℕ) (points : ℕ) → Some E ≡ agreed_extents maps (map f typed) loops.count → (cell_count E < 2 ^ 128 → points ≡ cell_count E)
+      → s.loops ≤ 6 → all_follow_loops s.loops (maps_of s) ≡ true → All IsHeld (map f typed)
+      → Some (record { shape = (f o).shape; points = points }) ≡ nest_size (map (λ t. t.shape) (map f xs)) s
+  unfolding nest_size
+  sized E points found count few follow held =
+      let known = agreed_some (maps_of s) (map f (take n xs) ++ f o ∷ []) s.loops E (found ∙ agreed_parts) in
+      let extents : E ≡ extents_by s (map (λ t. t.shape) (map f (take n xs) ++ f o ∷ [])) = known.1 ∙ extents_same s (map f (take n xs) ++ f o ∷ []) in
+      let small : cell_count E < 2 ^ 128 =
+      subst (λ e. cell_count e < 2 ^ 128) (sym extents)
+      (points_below s (map f (take n xs) ++ f o ∷ []) few follow known.0 (few_held (map f (take n xs) ++ f o ∷ []) (subst (All IsHeld) sized_typed held))) in
+      let shape : nest_shape s (map (λ t. t.shape) (map f (take n xs) ++ f o ∷ map f (drop (n + 1) xs))) ≡ Some (f o).shape =
+      shape_if (sizes_agree s (take (length s.inputs + 1) (map (λ t. t.shape) (map f (take n xs) ++ f o ∷ map f (drop (n + 1) xs))))) (outs_of s (map (λ t. t.shape) (map f (take n xs) ++ f o ∷ map f (drop (n + 1) xs)))) (f o).shape
+      (ap (sizes_agree s) sized_parts.shapes ∙ known.0) sized_parts.shape in
+      sym (ap (λ (ts : List TensorValue). option_map (λ z. record { shape = z; points = cell_count (extents_by s (map (λ t. t.shape) ts)) }) (nest_shape s (map (λ t. t.shape) ts))) all_parts
+      ∙ ap₂ (λ e o. option_map (λ z. record { shape = z; points = cell_count e }) o) (sized_parts.extents ∙ sym extents) shape
+      ∙ ap (λ k. Some (record { shape = (f o).shape; points = k })) (sym (count small)))
+
+  pub unsized : None ≡ agreed_extents maps (map f typed) loops.count → None ≡ nest_size (map (λ t. t.shape) (map f xs)) s
+  unfolding nest_size
+  unsized found =
+      let unlike = agreed_none (maps_of s) (map f (take n xs) ++ f o ∷ []) s.loops (found ∙ agreed_parts) in
+      sym (ap (λ (ts : List TensorValue). option_map (λ z. record { shape = z; points = cell_count (extents_by s (map (λ t. t.shape) ts)) }) (nest_shape s (map (λ t. t.shape) ts))) all_parts
+      ∙ ap (option_map (λ z. record { shape = z; points = cell_count (extents_by s (map (λ t. t.shape) (map f (take n xs) ++ f o ∷ map f (drop (n + 1) xs)))) }))
+      (no_shape_if (sizes_agree s (take (length s.inputs + 1) (map (λ t. t.shape) (map f (take n xs) ++ f o ∷ map f (drop (n + 1) xs))))) (of_one (λ z. Some z) (outs_of s (map (λ t. t.shape) (map f (take n xs) ++ f o ∷ map f (drop (n + 1) xs)))))
+      (ap (sizes_agree s) sized_parts.shapes ∙ unlike)))
+
 -- ---- whether an operation is structured
 
 of_structure_by : (kind : OpKind) (loops : loops_memory.Loops) (operands : List ℕ) (w : Width) (ts : List TensorValue) (o : Option Structure) → structure_of kind ≡ o → Some loops ≡ option_map loops_in o
@@ -518,9 +597,9 @@ pub of_structure : (kind : OpKind) (loops : loops_memory.Loops) (operands : List
     → IfSome (structure_of kind) (λ s. CanNest s operands w ts) → IsOfStructure kind loops operands w ts
 of_structure kind loops operands w ts h fits = of_structure_by kind loops operands w ts (structure_of kind) refl h fits
 
-no_structure_by : (o : Option Structure) (f : Structure → Option TensorValue) → None ≡ option_map loops_in o → None ≡ option_and_then f o
+no_structure_by : {Y : Type 0} (o : Option Structure) (f : Structure → Option Y) → None ≡ option_map loops_in o → None ≡ option_and_then f o
 no_structure_by None f h = refl
 no_structure_by (Some s) f h = absurd (none-some (loops_in s) h)
 
-pub no_structure : (kind : OpKind) (f : Structure → Option TensorValue) → None ≡ option_map loops_in (structure_of kind) → None ≡ option_and_then f (structure_of kind)
+pub no_structure : {Y : Type 0} (kind : OpKind) (f : Structure → Option Y) → None ≡ option_map loops_in (structure_of kind) → None ≡ option_and_then f (structure_of kind)
 no_structure kind f h = no_structure_by (structure_of kind) f h

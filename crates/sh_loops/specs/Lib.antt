@@ -7,3 +7,4 @@ pub mod Structures
 pub mod Regions
 pub mod Placing
 pub mod Structured
+pub mod NestSizes

@@ -4,6 +4,7 @@
 
 mod formulas;
 mod loops;
+mod nest_sizes;
 mod nests;
 mod operands;
 mod placing;
@@ -16,6 +17,7 @@ mod types;
 
 pub use formulas::Formula;
 pub use loops::natural;
+pub use nest_sizes::{NestSize, is_structured, nest_size};
 pub use operands::{cells_of, count_of, made, shape_of};
 pub use structures::structured_op;
 pub use types::{dims_of, width_of};

@@ -88,7 +88,7 @@ fn step_of(
 }
 
 /// All maps, the output's last.
-fn all_maps(alloc: Global, loops: &Loops) -> Result<Items<Items<Ids>>, Mem>
+pub(crate) fn all_maps(alloc: Global, loops: &Loops) -> Result<Items<Items<Ids>>, Mem>
     ensures { IfOk result (λ maps. maps ≡ loops.now.inputs ++ loops.now.output ∷ []) }
 {
     let mut maps = loops.inputs.duplicate(alloc)?;
@@ -97,7 +97,7 @@ fn all_maps(alloc: Global, loops: &Loops) -> Result<Items<Items<Ids>>, Mem>
 }
 
 /// How many loop points there are; at most one less than 2 to the 128.
-fn count_points(extents: &Shape) -> u128
+pub(crate) fn count_points(extents: &Shape) -> u128
     ensures { result ≡ min (cell_count extents.now) 340282366920938463463374607431768211455 }
 {
     let mut total: u128 = 1;
@@ -109,7 +109,7 @@ fn count_points(extents: &Shape) -> u128
 }
 
 /// Each of these is a tensor: what reading its shape tells.
-fn are_tensors(ins: &[&Tensor])
+pub(crate) fn are_tensors(ins: &[&Tensor])
     ensures { All IsHeld (map (λ t. t.now) ins.now) }
 {
     for at in 0..ins.len() {
