@@ -6,6 +6,9 @@ pub mod LayoutLaws
 pub mod KindLaws
 pub mod ValueLaws
 pub mod EvaluationLaws
+pub mod SizeRules
+pub mod WorkLaws
+pub mod OutcomeLaws
 pub mod TypeLaws
 pub mod MemberLaws
 pub mod RuleFacts
@@ -24,3 +27,5 @@ pub mod TypingLaws
 pub mod ReachedLaws
 pub mod AskedRules
 pub mod SourceExample
+pub mod RunLaws
+mod WorkExamples

@@ -6,4 +6,8 @@ pub mod Values
 pub mod Evaluations
 pub mod Sources
 pub mod VerifiedOps
+pub mod Work
+pub mod Sizes
+pub mod Functions
+pub mod Stores
 pub mod Reached

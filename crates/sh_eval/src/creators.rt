@@ -15,7 +15,7 @@ use sh_tensor::Tensor;
 use std::alloc::Global;
 
 /// The extents of a type that knows all of them.
-fn known_extents(alloc: Global, dims: &[Dim]) -> Result<Option<Vec<u128>>, Mem>
+pub(crate) fn known_extents(alloc: Global, dims: &[Dim]) -> Result<Option<Vec<u128>>, Mem>
     ensures { IfOk result (λ out. option_map (λ all. all.items) out
         ≡ option_map cut_shape (shape_known dims.now)) }
 {

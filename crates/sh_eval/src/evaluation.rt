@@ -154,7 +154,7 @@ fn layout_op(alloc: Global, op: &Op, seat: OpSeat, ts: &[&Tensor]) -> Result<Opt
 }
 
 /// Whether an operation is of this class.
-fn is_of(class: OpClass, other: OpClass) -> bool
+pub(crate) fn is_of(class: OpClass, other: OpClass) -> bool
     ensures { IsTrue result ↔ (class ≡ other) }
 {
     class == other
