@@ -21,10 +21,8 @@ use Rattle.sh_ir.specs.RegionRules.{block_of, keeps_at_yield, keeps_in_region, o
 use Rattle.sh_ir.specs.Rules.{body_faults, faults_at, keeps, loop_count, op_faults, ops_faults, refusal_at, region_faults}
 use Rattle.sh_ir.specs.Scope.{Scope, Value, scope_after, scope_of}
 use Rattle.sh_ir.specs.Written.{written_by}
+use Rattle.sh_ir.proofs.KeptLaws.{both_empty}
 use Rattle.sh_eval.specs.Sources.{IsOfSource}
-
-no_faults : (a b : List Refusal) → a ≡ [] → b ≡ [] → a ++ b ≡ []
-no_faults a b p q = ap (λ x. x ++ b) p ∙ q
 
 -- a rule that asks nothing at any place
 module _ (rule : Rule) (at_grid : (before : List GridItem) (g : GridItem) → keeps_grid rule before g ≡ true)
@@ -40,13 +38,13 @@ module _ (rule : Rule) (at_grid : (before : List GridItem) (g : GridItem) → ke
   in_grids : (before grids : List GridItem) → grid_faults (rule ∷ []) before grids ≡ []
   in_grids before [] = refl
   in_grids before (g ∷ grids) =
-      no_faults (faults_at g.place (rule ∷ []) (λ r. keeps_grid r before g)) (grid_faults (rule ∷ []) (before ++ g ∷ []) grids)
+      both_empty (faults_at g.place (rule ∷ []) (λ r. keeps_grid r before g)) (grid_faults (rule ∷ []) (before ++ g ∷ []) grids)
       (none_here g.place (keeps_grid rule before g) (at_grid before g)) (in_grids (before ++ g ∷ []) grids)
 
   in_body : (loops : ℕ) (outer own : List Value) (ops : List BodyOp) (body : Body) → body_faults (rule ∷ []) loops outer own ops body ≡ []
   in_body loops outer own [] body = none_here body.place (keeps_at_yield rule outer own body.yields) (at_yield outer own body.yields)
   in_body loops outer own (op ∷ ops) body =
-      no_faults (faults_at op.place (rule ∷ []) (λ r. keeps_in_region r loops outer own op))
+      both_empty (faults_at op.place (rule ∷ []) (λ r. keeps_in_region r loops outer own op))
       (body_faults (rule ∷ []) loops outer (own_after own op) ops body)
       (none_here op.place (keeps_in_region rule loops outer own op) (at_body_op loops outer own op))
       (in_body loops outer (own_after own op) ops body)
@@ -63,19 +61,19 @@ module _ (rule : Rule) (at_grid : (before : List GridItem) (g : GridItem) → ke
   in_op : (scope : Scope) (op : Op) → op_faults (rule ∷ []) scope op ≡ []
   unfolding op_faults
   in_op scope op =
-      no_faults (faults_at op.place (rule ∷ []) (λ r. keeps r scope op)) (region_faults (rule ∷ []) scope op.kind)
+      both_empty (faults_at op.place (rule ∷ []) (λ r. keeps r scope op)) (region_faults (rule ∷ []) scope op.kind)
       (none_here op.place (keeps rule scope op) (at_op scope op)) (in_region scope op.kind)
 
   in_ops : (scope : Scope) (ops : List Op) → ops_faults (rule ∷ []) scope ops ≡ []
   in_ops scope [] = refl
   in_ops scope (op ∷ ops) =
-      no_faults (op_faults (rule ∷ []) scope op) (ops_faults (rule ∷ []) (scope_after scope op) ops) (in_op scope op)
+      both_empty (op_faults (rule ∷ []) scope op) (ops_faults (rule ∷ []) (scope_after scope op) ops) (in_op scope op)
       (in_ops (scope_after scope op) ops)
 
   in_returns : (results : List ValueType) (ops : List Op) → return_faults (rule ∷ []) results ops ≡ []
   in_returns results [] = refl
   in_returns results (op ∷ ops) =
-      no_faults (faults_at op.place (rule ∷ []) (λ r. keeps_return r results op)) (return_faults (rule ∷ []) results ops)
+      both_empty (faults_at op.place (rule ∷ []) (λ r. keeps_return r results op)) (return_faults (rule ∷ []) results ops)
       (none_here op.place (keeps_return rule results op) (at_return results op)) (in_returns results ops)
 
   in_func : (m : Module) (before : List Func) (f : Func) → func_faults (rule ∷ []) m before f ≡ []
@@ -83,20 +81,20 @@ module _ (rule : Rule) (at_grid : (before : List GridItem) (g : GridItem) → ke
   in_func m before f =
       let ops = ops_faults (rule ∷ []) (scope_of m f) f.ops in
       let last = return_faults (rule ∷ []) f.results f.ops in
-      no_faults (faults_at f.place (rule ∷ []) (λ r. keeps_func r m before f)) (ops ++ last)
+      both_empty (faults_at f.place (rule ∷ []) (λ r. keeps_func r m before f)) (ops ++ last)
       (none_here f.place (keeps_func rule m before f) (at_func m before f))
-      (no_faults ops last (in_ops (scope_of m f) f.ops) (in_returns f.results f.ops))
+      (both_empty ops last (in_ops (scope_of m f) f.ops) (in_returns f.results f.ops))
 
   in_funcs : (m : Module) (before funcs : List Func) → funcs_faults (rule ∷ []) m before funcs ≡ []
   in_funcs m before [] = refl
   in_funcs m before (f ∷ funcs) =
-      no_faults (func_faults (rule ∷ []) m before f) (funcs_faults (rule ∷ []) m (before ++ f ∷ []) funcs) (in_func m before f)
+      both_empty (func_faults (rule ∷ []) m before f) (funcs_faults (rule ∷ []) m (before ++ f ∷ []) funcs) (in_func m before f)
       (in_funcs m (before ++ f ∷ []) funcs)
 
   in_calls : (items : List CallItem) → call_faults (rule ∷ []) items ≡ []
   in_calls [] = refl
   in_calls (item ∷ items) =
-      no_faults (faults_at item.place (rule ∷ []) (λ r. keeps_call r item)) (call_faults (rule ∷ []) items)
+      both_empty (faults_at item.place (rule ∷ []) (λ r. keeps_call r item)) (call_faults (rule ∷ []) items)
       (none_here item.place (keeps_call rule item) (at_call item)) (in_calls items)
 
   unasked_kept : (m : Module) → KeepsModule rule m
@@ -104,8 +102,8 @@ module _ (rule : Rule) (at_grid : (before : List GridItem) (g : GridItem) → ke
   unasked_kept m =
       let funcs = funcs_faults (rule ∷ []) m [] m.funcs in
       let calls = call_faults (rule ∷ []) m.calls in
-      no_faults (grid_faults (rule ∷ []) [] m.grids) (funcs ++ calls) (in_grids [] m.grids)
-      (no_faults funcs calls (in_funcs m [] m.funcs) (in_calls m.calls))
+      both_empty (grid_faults (rule ∷ []) [] m.grids) (funcs ++ calls) (in_grids [] m.grids)
+      (both_empty funcs calls (in_funcs m [] m.funcs) (in_calls m.calls))
 
 -- the limits and the rules that are asked
 pub record KeepsAsked (m : Module) : Type 0 where

@@ -24,7 +24,7 @@ use Rattle.sh_ir.specs.Regions.{captured_by, first_occurrences, is_among, outer_
 use Rattle.sh_ir.specs.Rules.{body_faults, faults_at, has_region_in_order, loop_count, loop_operands, region_faults}
 use Rattle.sh_ir.specs.Scope.{Scope, Value, plain_value, value_named}
 use Rattle.sh_ir.specs.Written.{Written, written_by, written_in_body}
-use Rattle.sh_ir.proofs.KeptLaws.{kept_inside}
+use Rattle.sh_ir.proofs.KeptLaws.{kept_inside, left_empty, right_empty}
 use Rattle.sh_loops.proofs.InsideLaws.{both_left, both_right}
 use Rattle.sh_sem.specs.Meaning.{Values}
 use Rattle.sh_eval.specs.Sources.{HaveTypes, IsOfValueType, has_value}
@@ -33,14 +33,6 @@ use Rattle.sh_eval.proofs.RuleFacts.{neither_left, neither_right, sound}
 use Rattle.sh_eval.proofs.TypeLaws.{AreNamed}
 
 -- ---- lists of faults
-
-pub left_empty : (a b : List Refusal) → a ++ b ≡ [] → a ≡ []
-left_empty [] b e = refl
-left_empty (r ∷ a) b e = absurd (cc)
-
-pub right_empty : (a b : List Refusal) → a ++ b ≡ [] → b ≡ []
-right_empty [] b e = e
-right_empty (r ∷ a) b e = absurd (cc)
 
 no_fault : (b : Bool) (r : Refusal) → (if b then [] else r ∷ []) ≡ [] → b ≡ true
 no_fault true r e = refl

@@ -17,11 +17,10 @@ use Rattle.sh_ir.specs.Literals.{is_held}
 use Rattle.sh_ir.specs.Rules.{KeepsOp, KeepsOps, faults_at, op_types_of, ops_faults}
 use Rattle.sh_ir.specs.Scope.{Scope, Value, plain_value, scope_after, scope_of, value_named, value_of, with_args}
 use Rattle.sh_ir.specs.Written.{Written, written_by, written_in_body}
-use Rattle.sh_ir.proofs.KeptLaws.{kept_first, kept_rest, scope_behind}
+use Rattle.sh_ir.proofs.KeptLaws.{kept_first, kept_rest, left_empty, right_empty, scope_behind}
 use Rattle.sh_loops.proofs.InsideLaws.{both_right}
 use Rattle.sh_eval.specs.Sources.{IsOfSource}
 use Rattle.sh_eval.specs.VerifiedOps.{HaveScalarConstants, IsBody, IsBodyOp, IsOfVerifiedOp}
-use Rattle.sh_eval.proofs.CapturedLaws.{left_empty, right_empty}
 use Rattle.sh_eval.proofs.MemberLaws.{all_both, at_place, each_chosen, each_list, each_mapped, of_back, of_front, of_test, to_test}
 
 -- ---- the rules
