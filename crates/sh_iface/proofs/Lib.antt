@@ -8,3 +8,5 @@ mod Examples
 pub mod ElementOf
 pub mod SplitLists
 pub mod ImpliedViewLaws
+pub mod MakingLaws
+pub mod PartLaws

@@ -5,6 +5,7 @@
 
 mod iface;
 mod laws;
+mod making;
 mod options;
 mod parts;
 mod validity;
@@ -12,6 +13,7 @@ mod viewing;
 
 pub use iface::{HasLoops, ShardIface};
 pub use laws::{element_laws, unsplit_is_valid};
+pub use making::implied_sharding;
 pub use options::{Follow, How, LoopOption, Split};
-pub use parts::LocalPart;
+pub use parts::{LocalPart, local_type, operand_names};
 pub use validity::is_valid;

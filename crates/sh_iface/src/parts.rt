@@ -1,6 +1,13 @@
 //! The local part of an operation.
-use sh_base::Kind;
-use sh_ir::Ops;
+ghost use Rattle.std.specs.Prelude.{◌≡◌, IfOk};
+ghost use Rattle.std.specs.List.{range_with_len};
+ghost use Rattle.sh_sharding.specs.LocalTypes.{local_dims};
+ghost use Rattle.sh_iface.specs.Elements.{tensor_of};
+
+use sh_base::{Ids, Items, Kind, Mem, Width};
+use sh_ir::{Ops, TensorType, ValueType};
+use sh_sharding::{Sharding, local_extent, rank};
+use std::alloc::Global;
 
 /// What an operation becomes on a device.
 ///
@@ -14,4 +21,32 @@ pub struct LocalPart {
     /// combined, over the group along the axes of the split reduction loops, and then with the
     /// outs, which are the last operand.
     pub combine: Option<Kind>,
+}
+
+/// The type of the local tensors of a width.
+///
+/// Errors: `Mem` where memory is wanting.
+#[tactic(auto, using(crate::proofs::PartLaws::local_dims_more, crate::proofs::PartLaws::local_dims_end))]
+pub fn local_type(alloc: Global, s: &Sharding, width: Width) -> Result<ValueType, Mem>
+    ensures { IfOk result (λ made. made ≡ tensor_of (local_dims s.now) width) }
+{
+    let mut dims = Items::new(alloc);
+    for dim in 0..rank(s) {
+        dims.push(local_extent(s, dim))?;
+    }
+    Ok(ValueType::Tensor(TensorType { dims, width }))
+}
+
+/// The names of so many operands of a local part.
+///
+/// Errors: `Mem` where memory is wanting.
+#[tactic(auto, using(crate::proofs::PartLaws::names_more))]
+pub fn operand_names(alloc: Global, count: u32) -> Result<Ids, Mem>
+    ensures { IfOk result (λ names. names ≡ range_with_len 0 count) }
+{
+    let mut names = Items::new(alloc);
+    for name in 0..count {
+        names.push(name)?;
+    }
+    Ok(names)
 }
