@@ -4,3 +4,4 @@ pub mod ListLaws
 pub mod ShiftLaws
 pub mod SizeLaws
 pub mod WayLaws
+pub mod DescribedLaws

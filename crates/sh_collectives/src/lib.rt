@@ -2,6 +2,7 @@
 //! members, or none where the group mismatches. The definitions stand in `sh_sem`.
 #![tactic(auto)]
 
+mod described;
 mod laws;
 mod members;
 mod shapes;

@@ -1,5 +1,6 @@
 ghost use Rattle.std.specs.Prelude.{◌≡◌, ◌<◌, ◌≤◌, [], All, IfSome, Some, ℕ, get_or, length, map, option_and_then, option_map};
 ghost use Rattle.sh_base.specs.Limits.{max_devices};
+ghost use Rattle.sh_base.specs.Shape.{max_rank};
 ghost use Rattle.sh_collectives.specs.Ways.{CanWork, IsGroup, collecting_by, source_by};
 ghost use Rattle.sh_sem.specs.Collected as collected;
 ghost use Rattle.sh_sem.specs.Pieces as pieces;
@@ -17,8 +18,9 @@ fn gathered(alloc: Global, axis: u64, shapes: &[&Shape]) -> Option<Sizes>
     requires some { 0 < length shapes.now }
     requires few { length shapes.now ≤ max_devices }
     requires axes { All (λ s. axis < length s) (map (λ s. s.now) shapes.now) }
-    ensures { option_map (λ s. s.items) result
+    ensures value { option_map (λ s. s.items) result
         ≡ pieces.joined_shape axis (map (λ s. s.now) shapes.now) }
+    ensures short { IfSome result (λ s. length s.items ≤ max_rank) }
 {
     let first = shapes[0];
     if !are_like(alloc, axis, first, &shapes[1..]) {
@@ -44,8 +46,9 @@ fn common<'a>(shapes: &[&'a Shape]) -> Option<&'a Shape>
 /// The shape of a combination of all operands.
 fn reduced(alloc: Global, shapes: &[&Shape]) -> Option<Sizes>
     requires { 0 < length shapes.now }
-    ensures { option_map (λ s. s.items) result
+    ensures value { option_map (λ s. s.items) result
         ≡ pieces.common_shape (map (λ s. s.now) shapes.now) }
+    ensures short { IfSome result (λ s. length s.items ≤ max_rank) }
 {
     match common(shapes) {
         Some(s) => Some(sizes_of(alloc, s)),
@@ -56,8 +59,9 @@ fn reduced(alloc: Global, shapes: &[&Shape]) -> Option<Sizes>
 /// The shape of a piece of a tensor.
 fn piece_of(alloc: Global, axis: u64, s: &Shape, members: u64) -> Option<Sizes>
     requires { axis < length s.now }
-    ensures { (p : ℕ) → option_map (λ s. s.items) result
+    ensures value { (p : ℕ) → option_map (λ s. s.items) result
         ≡ collected.scattered_shape axis members p s.now }
+    ensures short { IfSome result (λ s. length s.items ≤ max_rank) }
 {
     match piece_size(s.extents()[axis as usize], members) {
         Some(size) => Some(sizes_with(alloc, s, axis, size as u128)),
@@ -69,9 +73,10 @@ fn piece_of(alloc: Global, axis: u64, s: &Shape, members: u64) -> Option<Sizes>
 fn scattered(alloc: Global, axis: u64, shapes: &[&Shape]) -> Option<Sizes>
     requires some { 0 < length shapes.now }
     requires axes { All (λ s. axis < length s) (map (λ s. s.now) shapes.now) }
-    ensures { (p : ℕ) → option_map (λ s. s.items) result
+    ensures value { (p : ℕ) → option_map (λ s. s.items) result
         ≡ option_and_then (collected.scattered_shape axis (length shapes.now) p)
         (pieces.common_shape (map (λ s. s.now) shapes.now)) }
+    ensures short { IfSome result (λ s. length s.items ≤ max_rank) }
 {
     match common(shapes) {
         Some(s) => piece_of(alloc, axis, s, shapes.len() as u64),
@@ -84,8 +89,9 @@ fn pieces_of(alloc: Global, split: u64, concat: u64, s: &Shape, members: u64) ->
     requires split { split < length s.now }
     requires concat { concat < length s.now }
     requires few { members ≤ max_devices }
-    ensures { (p : ℕ) → option_map (λ s. s.items) result
+    ensures value { (p : ℕ) → option_map (λ s. s.items) result
         ≡ collected.exchanged_shape split concat members p s.now }
+    ensures short { IfSome result (λ s. length s.items ≤ max_rank) }
 {
     match piece_size(s.extents()[split as usize], members) {
         Some(size) => {
@@ -103,9 +109,10 @@ fn exchanged(alloc: Global, split: u64, concat: u64, shapes: &[&Shape]) -> Optio
     requires few { length shapes.now ≤ max_devices }
     requires split { All (λ s. split < length s) (map (λ s. s.now) shapes.now) }
     requires concat { All (λ s. concat < length s) (map (λ s. s.now) shapes.now) }
-    ensures { (p : ℕ) → option_map (λ s. s.items) result
+    ensures value { (p : ℕ) → option_map (λ s. s.items) result
         ≡ option_and_then (collected.exchanged_shape split concat (length shapes.now) p)
         (pieces.common_shape (map (λ s. s.now) shapes.now)) }
+    ensures short { IfSome result (λ s. length s.items ≤ max_rank) }
 {
     match common(shapes) {
         Some(s) => pieces_of(alloc, split, concat, s, shapes.len() as u64),
@@ -131,8 +138,9 @@ fn moved<'a>(alloc: Global, x: &Shifting, shapes: &[&'a Shape], place: u64) -> &
 pub(crate) fn sizes_at(alloc: Global, way: &Way, shapes: &[&Shape], place: u64) -> Option<Sizes>
     requires works { CanWork way.now (map (λ s. s.now) shapes.now) }
     requires place { place < length shapes.now }
-    ensures { option_map (λ s. s.items) result
+    ensures value { option_map (λ s. s.items) result
         ≡ (collecting_by way.now).shape place (map (λ s. s.now) shapes.now) }
+    ensures short { IfSome result (λ s. length s.items ≤ max_rank) }
 {
     match way {
         Way::Gather(axis) => gathered(alloc, *axis, shapes),

@@ -24,7 +24,8 @@ pub(crate) type Sizes = SmallVec<u128, 6>;
 
 /// The extents of a shape.
 pub(crate) fn sizes_of(alloc: Global, s: &Shape) -> Sizes
-    ensures { result.items ≡ s.now }
+    ensures value { result.items ≡ s.now }
+    ensures short { length result.items ≤ max_rank }
 {
     let extents = s.extents();
     let mut sizes: Sizes = SmallVec::new(alloc);
@@ -47,7 +48,8 @@ fn size_at(extents: &[u64], axis: u64, size: u128, at: usize) -> u128
 
 /// The extents of a shape, with another on an axis.
 pub(crate) fn sizes_with(alloc: Global, s: &Shape, axis: u64, size: u128) -> Sizes
-    ensures { result.items ≡ set s.now axis size }
+    ensures value { result.items ≡ set s.now axis size }
+    ensures short { length result.items ≤ max_rank }
 {
     let extents = s.extents();
     let mut sizes: Sizes = SmallVec::new(alloc);

@@ -1,6 +1,7 @@
 ghost use Rattle.std.specs.Prelude.{◌≡◌};
 
 use sh_base::{Kind, Shape};
+use sh_ir::Dim;
 
 /// A shift along one axis of a group: the extents of the axes along which the group stands, where
 /// its axis stands among them, and how far it goes.
@@ -25,4 +26,11 @@ pub(crate) enum Way {
     Exchange(u64, u64),
     /// The operand of another member.
     Shift(Shifting),
+}
+
+/// What a collective does on a grid, and the extents that its operands' type knows.
+#[derive(Drop)]
+pub(crate) struct Described<'a> {
+    pub(crate) way: Way,
+    pub(crate) dims: &'a [Dim],
 }

@@ -10,14 +10,14 @@ pub are_like-requires-clause-axes : goal.are_like-requires-clause-axes
 are_like-requires-clause-axes c =
     All-others (λ s. c.args.axis < length s.now) c.args.shapes.now (All-of_map (λ s. c.args.axis < length s) (λ s. s.now) c.args.shapes.now c.requires.axes)
 
-pub returns-then-not-are_like : goal.returns-then-not-are_like
-returns-then-not-are_like c =
+pub returns-then-not-are_like-clause-value : goal.returns-then-not-are_like-clause-value
+returns-then-not-are_like-clause-value c =
     not_joined c.args.axis (λ s. s.now) c.args.shapes.now c.index-shapes-0.result _ c.requires.some c.index-shapes-0.is (sym c.are_like.ensures ∙ c.if-not-are_like.true)
 
 pub total_extent-requires-clause-axes : goal.total_extent-requires-clause-axes
 total_extent-requires-clause-axes c = All-of_map (λ s. c.args.axis < length s) (λ s. s.now) c.args.shapes.now c.requires.axes
 
-pub returns : goal.returns
-returns c =
+pub returns-clause-value : goal.returns-clause-value
+returns-clause-value c =
     are_joined c.args.axis (λ s. s.now) c.args.shapes.now c.index-shapes-0.result _ c.sizes_with.result.items c.total_extent.result c.requires.some c.index-shapes-0.is
-    (sym c.are_like.ensures ∙ c.if-not-are_like.false) c.sizes_with.ensures c.total_extent.ensures
+    (sym c.are_like.ensures ∙ c.if-not-are_like.false) c.sizes_with.ensures.value c.total_extent.ensures
