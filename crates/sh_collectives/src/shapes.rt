@@ -1,15 +1,19 @@
-ghost use Rattle.std.specs.Prelude.{◌≡◌, ◌<◌, ◌≤◌, [], All, IfSome, Some, ℕ, get_or, length, map, option_and_then, option_map};
+ghost use Rattle.std.specs.Prelude.{◌≡◌, ◌<◌, ◌≤◌, [], All, IfSome, Some, ℕ, get_or, is_some, length, map, option_and_then, option_map};
+ghost use Rattle.std.specs.List.{list_all};
 ghost use Rattle.sh_base.specs.Limits.{max_devices};
 ghost use Rattle.sh_base.specs.Shape.{max_rank};
 ghost use Rattle.sh_collectives.specs.Ways.{CanWork, IsGroup, collecting_by, source_by};
 ghost use Rattle.sh_sem.specs.Collected as collected;
+ghost use Rattle.sh_sem.specs.Given.{of_dims};
 ghost use Rattle.sh_sem.specs.Pieces as pieces;
+ghost use Rattle.sh_sem.specs.Types.{have_extents};
 
 use crate::members::{are_like, are_same, piece_size, total_extent};
 use crate::shifts::source;
-use crate::sizes::{Sizes, sizes_of, sizes_with};
+use crate::sizes::{Sizes, fits, sizes_of, sizes_with};
 use crate::ways::{Shifting, Way};
 use sh_base::Shape;
+use sh_ir::Dim;
 use sh_tensor::with_extent;
 use std::alloc::Global;
 
@@ -148,5 +152,51 @@ pub(crate) fn sizes_at(alloc: Global, way: &Way, shapes: &[&Shape], place: u64) 
         Way::Scatter(_, axis) => scattered(alloc, *axis, shapes),
         Way::Exchange(split, concat) => exchanged(alloc, *split, *concat, shapes),
         Way::Shift(x) => Some(sizes_of(alloc, moved(alloc, x, shapes, place))),
+    }
+}
+
+/// Whether all operands have the extents that their type knows.
+pub(crate) fn operands_fit(alloc: Global, dims: &[Dim], shapes: &[&Shape]) -> bool
+    ensures { result ≡ list_all (have_extents dims.now) (map (λ s. s.now) shapes.now) }
+{
+    for shape in shapes {
+        let sizes = sizes_of(alloc, shape);
+        if !fits(dims, sizes.as_slice()) {
+            return false;
+        }
+    }
+    true
+}
+
+/// The extents, where they are those that a type knows.
+fn if_fitting(dims: &[Dim], sizes: Sizes) -> Option<Sizes>
+    ensures value { option_map (λ s. s.items) result ≡ of_dims dims.now sizes.items }
+    ensures same { IfSome result (λ s. s ≡ sizes) }
+{
+    if fits(dims, sizes.as_slice()) {
+        Some(sizes)
+    } else {
+        None
+    }
+}
+
+/// The extents that a collective gives at a place, where they are those that its result's type
+/// knows.
+pub(crate) fn fitting_at(
+    alloc: Global,
+    dims: &[Dim],
+    way: &Way,
+    shapes: &[&Shape],
+    place: u64,
+) -> Option<Sizes>
+    requires works { CanWork way.now (map (λ s. s.now) shapes.now) }
+    requires place { place < length shapes.now }
+    ensures value { option_map (λ s. s.items) result ≡ option_and_then (of_dims dims.now)
+        ((collecting_by way.now).shape place (map (λ s. s.now) shapes.now)) }
+    ensures short { IfSome result (λ s. length s.items ≤ max_rank) }
+{
+    match sizes_at(alloc, way, shapes, place) {
+        Some(sizes) => if_fitting(dims, sizes),
+        None => None,
     }
 }

@@ -1,4 +1,4 @@
-ghost use Rattle.std.specs.Prelude.{◌≡◌, ◌+◌, ◌*◌, ◌≤◌, ◌<◌, ◌^◌, ◌↔◌, IsTrue, All, length, max, min, set, get_or};
+ghost use Rattle.std.specs.Prelude.{IfSome, option_map, ◌≡◌, ◌+◌, ◌*◌, ◌≤◌, ◌<◌, ◌^◌, ◌↔◌, IsTrue, All, length, max, min, set, get_or};
 ghost use Rattle.sh_base.specs.Shape.{max_cells, max_rank};
 ghost use Rattle.sh_collectives.specs.Sizes as spec;
 ghost use Rattle.sh_sem.specs.Types.{have_extents};
@@ -128,5 +128,19 @@ pub(crate) fn small_shape(alloc: Global, sizes: &[u128]) -> Option<Shape>
         Some(shape_with(alloc, sizes))
     } else {
         None
+    }
+}
+
+/// What is answered of extents that are there, or aren't.
+pub(crate) fn answer_of(alloc: Global, sizes: Option<Sizes>) -> Shaped
+    requires { IfSome sizes (λ s. length s.items ≤ max_rank) }
+    ensures { result ≡ spec.shaped (option_map (λ s. s.items) sizes) }
+{
+    let Some(sizes) = sizes else {
+        return Shaped::Mismatch;
+    };
+    match small_shape(alloc, sizes.as_slice()) {
+        Some(shape) => Shaped::Fits(shape),
+        None => Shaped::TooLarge,
     }
 }
