@@ -5,3 +5,4 @@ pub mod ShiftLaws
 pub mod SizeLaws
 pub mod WayLaws
 pub mod DescribedLaws
+pub mod PlaceLaws

@@ -200,3 +200,18 @@ pub(crate) fn fitting_at(
         None => None,
     }
 }
+
+/// Whether each place has a result of the extents that a type knows.
+pub(crate) fn all_fit(alloc: Global, dims: &[Dim], way: &Way, shapes: &[&Shape]) -> bool
+    requires { CanWork way.now (map (λ s. s.now) shapes.now) }
+    ensures { result ≡ is_some (collected.shapes_by dims.now (map (λ s. s.now) shapes.now)
+        (collecting_by way.now)) }
+{
+    for place in 0..shapes.len() {
+        match fitting_at(alloc, dims, way, shapes, place as u64) {
+            Some(_) => {}
+            None => return false,
+        }
+    }
+    true
+}

@@ -1,0 +1,37 @@
+-- The shapes of all results, place by place.
+use Rattle.std.proofs.Common.{◌≡◌, ℕ, zero, suc, ◌+◌, ◌-◌, ◌<◌, ◌≤◌, Bool, true, false, List, [], ◌∷◌, map, length, refl, ap, sym, ◌∙◌, arith, Option, Some, None}
+use Rattle.std.specs.Prelude.{option_map, is_some}
+use Rattle.std.specs.List.{range_with_len}
+use Rattle.sh_turns.specs.Program.{all_there}
+
+more_there : {X : Type 0} (x : X) (o : Option (List X)) → is_some (option_map (λ xs. x ∷ xs) o) ≡ is_some o
+more_there x None = refl
+more_there x (Some xs) = refl
+
+module _ {X : Type 0} (f : ℕ → Option X) where
+  -- whether so many values from a place on are all there
+  abbrev pub are_there : ℕ → ℕ → Bool
+  are_there k n = is_some (all_there (map f (range_with_len k n)))
+
+  there_next : (k n : ℕ) → k < n → are_there k (n - k) ≡ are_there k (suc (n - (k + 1)))
+  there_next k n l =
+      let one : n - k ≡ suc (n - (k + 1)) = omega (arith, l) in
+      ap (are_there k) one
+
+  -- all of as many as another list has
+  pub there_start : (n m : ℕ) → n ≡ m → are_there 0 (n - 0) ≡ are_there 0 m
+  there_start n m e =
+      let same : n - 0 ≡ m = omega (arith, e) in
+      ap (are_there 0) same
+
+  pub there_fails : (k n : ℕ) (whole : Bool) → k < n → f k ≡ None → are_there k (n - k) ≡ whole → false ≡ whole
+  there_fails k n whole l e h = sym (there_next k n l ∙ rw e refl) ∙ h
+
+  pub there_passes : (k n : ℕ) (x : X) (whole : Bool) → k < n → f k ≡ Some x → are_there k (n - k) ≡ whole → are_there (k + 1) (n - (k + 1)) ≡ whole
+  there_passes k n x whole l e h =
+      sym (there_next k n l ∙ rw e (more_there x (all_there (map f (range_with_len (k + 1) (n - (k + 1))))))) ∙ h
+
+  pub there_end : (k n : ℕ) (whole : Bool) → n ≤ k → are_there k (n - k) ≡ whole → true ≡ whole
+  there_end k n whole l h =
+      let none : n - k ≡ 0 = omega (arith, l) in
+      sym (ap (are_there k) none) ∙ h
