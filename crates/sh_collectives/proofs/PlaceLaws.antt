@@ -1,6 +1,6 @@
 -- The shapes of all results, place by place.
-use Rattle.std.proofs.Common.{◌≡◌, ℕ, zero, suc, ◌+◌, ◌-◌, ◌<◌, ◌≤◌, Bool, true, false, List, [], ◌∷◌, map, length, refl, ap, sym, ◌∙◌, arith, Option, Some, None}
-use Rattle.std.specs.Prelude.{option_map, is_some}
+use Rattle.std.proofs.Common.{◌≡◌, ℕ, zero, suc, ◌+◌, ◌-◌, ◌<◌, ◌≤◌, Bool, true, false, List, [], ◌∷◌, map, length, get_or, refl, ap, sym, ◌∙◌, arith, Option, Some, None}
+use Rattle.std.specs.Prelude.{option_map, option_and_then, is_some, slice_get, if◌then◌else◌}
 use Rattle.std.specs.List.{range_with_len}
 use Rattle.sh_turns.specs.Program.{all_there}
 
@@ -35,3 +35,20 @@ module _ {X : Type 0} (f : ℕ → Option X) where
   there_end k n whole l h =
       let none : n - k ≡ 0 = omega (arith, l) in
       sym (ap (are_there k) none) ∙ h
+
+-- of values that are all there, the one at a place
+found : {X : Type 0} (v : X) (o : Option (List X)) (k : ℕ) (x : Option X) → option_and_then (λ l. slice_get l k) o ≡ (if is_some o then x else None)
+    → option_and_then (λ l. slice_get l (suc k)) (option_map (λ ws. v ∷ ws) o) ≡ (if is_some (option_map (λ ws. v ∷ ws) o) then x else None)
+found v None k x h = refl
+found v (Some l) k x h = h
+
+first_found : {X : Type 0} (v : X) (o : Option (List X))
+    → option_and_then (λ l. slice_get l 0) (option_map (λ ws. v ∷ ws) o) ≡ (if is_some (option_map (λ ws. v ∷ ws) o) then Some v else None)
+first_found v None = refl
+first_found v (Some l) = refl
+
+pub there_at : {X : Type 0} (vs : List (Option X)) (k : ℕ) → k < length vs → option_and_then (λ l. slice_get l k) (all_there vs) ≡ (if is_some (all_there vs) then get_or vs k None else None)
+there_at [] k l = absurd (omega (arith, l))
+there_at (None ∷ vs) k l = refl
+there_at (Some v ∷ vs) zero l = first_found v (all_there vs)
+there_at (Some v ∷ vs) (suc k) l = found v (all_there vs) k (get_or vs k None) (there_at vs k (omega (arith, l)))
