@@ -29,7 +29,7 @@ use Rattle.sh_iface.specs.LoopNest.{Loop, LoopNest, NestDim, NestValue}
 use Rattle.sh_iface.specs.Splits.{can_window, implied_of}
 use Rattle.sh_iface.specs.Table.{follows, follows_none, nest_of, parallel}
 
-abbrev tensor : List ℕ → ValueType
+abbrev pub tensor : List ℕ → ValueType
 tensor shape = Tensor (record { dims = map (λ n. Known n) shape; width = I32 })
 
 abbrev value : List NestDim → NestValue
@@ -38,7 +38,7 @@ value dims = record { dims = dims; width = I32 }
 abbrev reducing : ℕ → Kind → Loop
 reducing extent kind = record { extent = extent; splittable = true; kind = Some kind }
 
-abbrev here : Place
+abbrev pub here : Place
 here = record { line = 1; column = 1 }
 
 -- ---- the table
@@ -64,7 +64,7 @@ unfolding nest_of structure_of
 multiplied = refl
 
 -- a region of one operation on its arguments 7 and 8, the output's
-abbrev region : BinOp → List ℕ → Body
+abbrev pub region : BinOp → List ℕ → Body
 region op operands = record {
   args = 7 ∷ 8 ∷ [];
   widths = I32 ∷ I32 ∷ [];
@@ -111,13 +111,13 @@ prepared : kind_of_body (record (region Maxsi (8 ∷ 7 ∷ [])) {
 unfolding kind_of_body
 prepared = refl
 
-abbrev one : ValueType → ValueType → InsOuts
+abbrev pub one : ValueType → ValueType → InsOuts
 one ins outs = record { ins_count = 1; ins_types = ins ∷ []; outs_count = 1; outs_types = outs ∷ [] }
 
 abbrev sum : OpKind
 sum = Reduce (record { ins_outs = one (tensor (2 ∷ 4 ∷ [])) (tensor (2 ∷ [])); dimensions = pos 1 ∷ []; body = region Addi (8 ∷ 7 ∷ []) })
 
-abbrev sum_nest : LoopNest
+abbrev pub sum_nest : LoopNest
 sum_nest = record {
   loops = parallel true 2 ∷ reducing 4 Sum ∷ [];
   operands = value (follows Same 0 2 ∷ follows Same 1 4 ∷ []) ∷ value (follows Same 0 2 ∷ []) ∷ [];
@@ -128,7 +128,7 @@ summed : nest_of sum (tensor (2 ∷ [])) ≡ Some sum_nest
 unfolding nest_of structure_of kind_of_body
 summed = refl
 
-abbrev collapse_nest : LoopNest
+abbrev pub collapse_nest : LoopNest
 collapse_nest = record {
   loops = parallel true 4 ∷ [];
   operands = value (follows Same 0 4 ∷ follows_none 3 ∷ []) ∷ [];
@@ -173,10 +173,10 @@ convolved = refl
 
 -- ---- implied shardings on a grid of 2
 
-abbrev grid : GridValue
+abbrev pub grid : GridValue
 grid = record { name = 103 ∷ []; extents = 2 ∷ [] }
 
-abbrev along : List ℤ → Option Split
+abbrev pub along : List ℤ → Option Split
 along starts = Some (record { axes = 0 ∷ []; starts = starts })
 
 abbrev split : ℕ → Mark → ℕ → Dimension

@@ -4,7 +4,8 @@ pub mod Implied
 pub mod ElementRules
 pub mod ElementLaws
 pub mod SplitViews
-mod Examples
+pub mod Examples
+mod LawExamples
 pub mod ElementOf
 pub mod SplitLists
 pub mod ImpliedViewLaws
