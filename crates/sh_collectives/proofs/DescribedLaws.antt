@@ -1,16 +1,14 @@
 -- What is described of a collective, by its kind.
-use Rattle.std.proofs.Common.{◌≡◌, ℕ, zero, suc, ◌+◌, ◌<◌, ◌≤◌, Bool, true, false, List, [], ◌∷◌, map, length, get_or, drop, refl, ap, sym, ◌∙◌, arith, subst, slice_index, Option, Some, None, cond}
-use Rattle.std.specs.Prelude.{◌&&◌, All, nat_eq, position, IfSome, if◌then◌else◌, ℤ, pos, negsuc, option_and_then}
-use Rattle.std.specs.List.{list_all, position_from}
+use Rattle.std.proofs.Common.{◌≡◌, ℕ, ◌+◌, ◌<◌, Bool, true, false, List, length, get_or, drop, refl, ap, sym, ◌∙◌, subst, slice_index, Option, Some, None}
+use Rattle.std.specs.Prelude.{◌&&◌, nat_eq, position, IfSome, ℤ}
+use Rattle.std.specs.List.{position_from}
 use Rattle.std.proofs.lemmas.List.{drop_more, length-map, get_or-map}
 use Rattle.std.proofs.lemmas.List.Quantifiers.{position-Some}
-use Rattle.std.proofs.Math.ListN.{drop_of_length-le}
 use Rattle.sh_base.specs.Shape.{cell_count}
 use Rattle.sh_collectives.specs.declared.ways.Described.{Described}
 use Rattle.sh_collectives.specs.declared.ways.Shifting.{Shifting}
-use Rattle.sh_collectives.specs.declared.ways.Way.{Way}
 use Rattle.sh_collectives.specs.declared.ways.Way.TheVariants as way
-use Rattle.sh_collectives.specs.Ways.{collecting_by, dims_along, dims_worked, IsOfSize, IsGroup, source_by, shifts_by}
+use Rattle.sh_collectives.specs.Ways.{IsOfSize, shifts_by}
 use Rattle.sh_collectives.specs.Described.{IsShift, IsDescription}
 use Rattle.sh_grid.specs.Grid.{AreAxesOf, group_size_of, on_axes}
 use Rattle.sh_grid.proofs.GroupLaws.{length-on_axes}
@@ -25,7 +23,7 @@ use Rattle.sh_ir.specs.declared.shard_ops.ReduceScatter as declared_reduce_scatt
 use Rattle.sh_ir.specs.declared.shard_ops.Shift as declared_shift
 use Rattle.sh_ir.specs.Numbers.{as_natural, as_naturals}
 use Rattle.sh_ir.specs.Typing.{typing_of}
-use Rattle.sh_sem.specs.Collected.{collecting, shifts, shift_source, source_place, shifted_shape, shifted_cell}
+use Rattle.sh_sem.specs.Collected.{collecting, shifts}
 use Rattle.sh_sem.specs.Steps.{axes_of}
 use Rattle.sh_sem.specs.Types.{have_extents}
 

@@ -1,13 +1,12 @@
 -- The shapes of a group: by the first, and by the others.
-use Rattle.std.proofs.Common.{◌≡◌, ℕ, zero, suc, ◌+◌, ◌-◌, ◌<◌, ◌≤◌, Bool, true, false, List, [], ◌∷◌, map, length, get_or, refl, ap, ap₂, sym, ◌∙◌, arith, take, drop, subst, Some, None}
+use Rattle.std.proofs.Common.{◌≡◌, ℕ, ◌-◌, ◌<◌, Bool, true, false, List, [], ◌∷◌, map, length, get_or, refl, ap, sym, ◌∙◌, arith, take, drop, subst, Some, None}
 use Rattle.std.specs.Prelude.{◌*◌, All, Option, option_map, set, nat_eq, if◌then◌else◌}
 use Rattle.std.specs.Cmp.Lexicographic.{pointwise}
 use Rattle.std.specs.List.{list_all}
 use Rattle.std.proofs.lemmas.List.{take_all, length-map, get_or-map}
 use Rattle.std.proofs.lemmas.List.Elements.{All-take, All-drop}
 use Rattle.std.proofs.lemmas.Option.{same_Some}
-use Rattle.sh_sem.specs.Collected.{scattered_shape, exchanged_shape}
-use Rattle.sh_sem.specs.Pieces.{Piece, equal_piece, piece_shape, is_like, joined_shape, common_shape, total_extent}
+use Rattle.sh_sem.specs.Pieces.{Piece, piece_shape, is_like, joined_shape, common_shape, total_extent}
 
 -- the elements behind the first, as a loop goes over them
 abbrev pub others : {X : Type 0} → List X → List X

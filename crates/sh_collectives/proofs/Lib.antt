@@ -6,3 +6,12 @@ pub mod SizeLaws
 pub mod WayLaws
 pub mod DescribedLaws
 pub mod PlaceLaws
+mod AskedLaws
+mod AnswerLaws
+mod JoiningLaws
+mod MadeLaws
+mod CombiningLaws
+mod PartLaws
+mod MovingLaws
+mod ValueLaws
+mod ResultLaws

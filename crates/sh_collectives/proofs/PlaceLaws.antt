@@ -1,6 +1,6 @@
 -- The shapes of all results, place by place.
 use Rattle.std.proofs.Common.{◌≡◌, ℕ, zero, suc, ◌+◌, ◌-◌, ◌<◌, ◌≤◌, Bool, true, false, List, [], ◌∷◌, map, length, get_or, refl, ap, sym, ◌∙◌, arith, Option, Some, None}
-use Rattle.std.specs.Prelude.{option_map, option_and_then, is_some, slice_get, if◌then◌else◌}
+use Rattle.std.specs.Prelude.{option_map, option_and_then, is_some, slice_get, min, if◌then◌else◌}
 use Rattle.std.specs.List.{range_with_len}
 use Rattle.sh_turns.specs.Program.{all_there}
 
@@ -35,6 +35,20 @@ module _ {X : Type 0} (f : ℕ → Option X) where
   there_end k n whole l h =
       let none : n - k ≡ 0 = omega (arith, l) in
       sym (ap (are_there k) none) ∙ h
+
+  -- a value that is one at all places is there at all if it is at the first
+  there_once : ((p q : ℕ) → f p ≡ f q) → (o : Option X) → f 0 ≡ o → (k n : ℕ) → are_there k (suc n) ≡ is_some o
+  there_once same None e k n = rw (same k 0, e) refl
+  there_once same (Some x) e k zero = rw (same k 0, e) refl
+  there_once same (Some x) e k (suc n) =
+      let rest = there_once same (Some x) e (k + 1) n in
+      rw (same k 0, e) (more_there x (all_there (map f (range_with_len (k + 1) (suc n)))) ∙ rest)
+
+  pub there_by_first : ((p q : ℕ) → f p ≡ f q) → (n : ℕ) → are_there 0 (min n 1) ≡ are_there 0 n
+  there_by_first same zero = refl
+  there_by_first same (suc n) =
+      let one : min (suc n) 1 ≡ 1 = omega arith in
+      ap (are_there 0) one ∙ there_once same (f 0) refl 0 0 ∙ sym (there_once same (f 0) refl 0 n)
 
 -- of values that are all there, the one at a place
 found : {X : Type 0} (v : X) (o : Option (List X)) (k : ℕ) (x : Option X) → option_and_then (λ l. slice_get l k) o ≡ (if is_some o then x else None)

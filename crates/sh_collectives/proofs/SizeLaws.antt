@@ -1,11 +1,11 @@
 -- Extents against those that a type knows, and their number of cells.
-use Rattle.std.proofs.Common.{◌≡◌, ◌≢◌, ℕ, zero, suc, ◌+◌, ◌*◌, ◌<◌, ◌≤◌, ◌^◌, Bool, true, false, List, [], ◌∷◌, map, length, get_or, refl, ap, sym, ◌∙◌, arith, drop, All, max, subst}
+use Rattle.std.proofs.Common.{◌≡◌, ◌≢◌, ℕ, suc, ◌+◌, ◌*◌, ◌<◌, ◌≤◌, ◌^◌, Bool, true, false, List, [], ◌∷◌, map, length, get_or, refl, ap, sym, ◌∙◌, arith, drop, All, max, subst}
 use Rattle.std.specs.Prelude.{◌&&◌, ◌==◌}
 use Rattle.std.proofs.lemmas.List.{drop_more}
-use Rattle.std.proofs.lemmas.List.Elements.{All-nil, All-cons, All-weaker}
+use Rattle.std.proofs.lemmas.List.Elements.{All-nil, All-cons}
 use Rattle.std.proofs.Math.ListN.{drop_of_length-le}
 use Rattle.std.proofs.Math.Nat.{le-mul_of_pos_right, one-le-mul, mul_comm}
-use Rattle.sh_base.specs.Shape.{cell_count, max_cells}
+use Rattle.sh_base.specs.Shape.{max_cells}
 use Rattle.sh_ir.specs.declared.types.Dim.{Dim}
 use Rattle.sh_ir.specs.declared.types.Dim.TheVariants.{Known, Differs}
 use Rattle.sh_sem.specs.Types.{have_extents}

@@ -1,5 +1,5 @@
 -- What a collective gives, by its way.
-use Rattle.std.proofs.Common.{◌≡◌, ℕ, ◌<◌, List, [], ◌∷◌, length, get_or, ap, sym, ◌∙◌, arith, subst, Some}
+use Rattle.std.proofs.Common.{◌≡◌, ℕ, ◌<◌, List, length, get_or, ap, sym, ◌∙◌, subst}
 use Rattle.std.specs.Prelude.{All, Option, option_and_then}
 use Rattle.sh_base.specs.declared.operations.Kind.{Kind}
 use Rattle.sh_collectives.specs.declared.ways.Shifting.{Shifting}

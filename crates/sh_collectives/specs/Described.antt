@@ -1,5 +1,5 @@
 -- What is described of a collective, and what is asked of its group.
-use Rattle.std.specs.Prelude.{◌≡◌, ℕ, ◌<◌, ◌≤◌, List, [], ◌∷◌, All, length, map, nat_eq, position, Option, Some, None, if◌then◌else◌}
+use Rattle.std.specs.Prelude.{◌≡◌, ℕ, ◌<◌, List, [], ◌∷◌, All, length, nat_eq, position, Option, Some, None, if◌then◌else◌}
 use Rattle.std.specs.List.{list_all}
 use Rattle.sh_collectives.specs.declared.ways.Described.{Described}
 use Rattle.sh_collectives.specs.declared.ways.Shifting.{Shifting}

@@ -1,6 +1,6 @@
 -- What a collective does with the operands of a group, and the tensor dimensions along which it
 -- works.
-use Rattle.std.specs.Prelude.{◌≡◌, ℕ, ◌<◌, ◌≤◌, List, [], ◌∷◌, All, length, Option, option_and_then, IfSome}
+use Rattle.std.specs.Prelude.{◌≡◌, ℕ, ◌<◌, ◌≤◌, List, [], ◌∷◌, All, length, Option, option_and_then, IfSome, min}
 use Rattle.sh_base.specs.Limits.{max_devices}
 use Rattle.sh_base.specs.Shape.{cell_count}
 use Rattle.sh_collectives.specs.declared.ways.Shifting.{Shifting}
@@ -8,8 +8,6 @@ use Rattle.sh_collectives.specs.declared.ways.Way.{Way}
 use Rattle.sh_collectives.specs.declared.ways.Way.TheVariants as way
 use Rattle.sh_ir.specs.declared.operations.OpKind.{OpKind}
 use Rattle.sh_ir.specs.declared.operations.OpKind.TheVariants.{Constant, Binary, Compare, Select, Cast, Empty, ExtractSlice, InsertSlice, CollapseShape, ExpandShape, Fill, Matmul, BatchMatmul, Matvec, Vecmat, Dot, Conv1d, Conv2d, Transpose, Broadcast, Reduce, Generic, Sharding, Shard, AllGather, AllSlice, AllReduce, ReduceScatter, AllToAll, Shift, UpdateHalo, Take, Pad, Join, Call, Return}
-use Rattle.sh_ir.specs.declared.types.Dim.{Dim}
-use Rattle.sh_ir.specs.Typing.{typing_of}
 use Rattle.sh_sem.specs.Collected.{Collecting, gathers, reduces, scatters, exchanges, source_place, shifted_shape, shifted_cell}
 
 -- ---- by way
@@ -39,6 +37,15 @@ dims_along (way.Reduce kind) = []
 dims_along (way.Scatter kind axis) = axis ∷ []
 dims_along (way.Exchange split concat) = split ∷ concat ∷ []
 dims_along (way.Shift x) = []
+
+-- of how many places of a group a result is asked, so that all have one if these have: only a shift
+-- gives another shape at another place
+abbrev pub places_asked : Way → ℕ → ℕ
+places_asked (way.Gather axis) n = min n 1
+places_asked (way.Reduce kind) n = min n 1
+places_asked (way.Scatter kind axis) n = min n 1
+places_asked (way.Exchange split concat) n = min n 1
+places_asked (way.Shift x) n = n
 
 -- a shift's group of so many members, along whose axes the shift goes
 pub record IsGroup (x : Shifting) (n : ℕ) : Type 0 where

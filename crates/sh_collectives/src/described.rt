@@ -1,7 +1,6 @@
 ghost use Rattle.std.specs.Prelude.{◌≡◌, ◌<◌, None, IfNone, IfSome, length, max, position, nat_eq, get_or, pos};
 ghost use Rattle.sh_collectives.specs.Described.{IsDescription, IsShift};
-ghost use Rattle.sh_grid.specs.Grid.{AreAxesOf, on_axes};
-ghost use Rattle.sh_ir.specs.Agreement.{dims_of};
+ghost use Rattle.sh_grid.specs.Grid.{AreAxesOf, IsGrid, on_axes};
 ghost use Rattle.sh_ir.specs.Numbers.{as_natural, as_naturals};
 ghost use Rattle.sh_sem.specs.Collected.{collecting};
 ghost use Rattle.sh_sem.specs.Steps.{axes_of};
@@ -9,19 +8,10 @@ ghost use Rattle.sh_sem.specs.Steps.{axes_of};
 use crate::ways::{Described, Shifting, Way};
 use sh_base::{Shape, shape};
 use sh_grid::{Grid, extents};
-use sh_ir::{Dim, OpKind, Shift, ValueType};
+use sh_ir::{OpKind, Shift};
+use sh_loops::dims_of;
 use smallvec::SmallVec;
 use std::alloc::Global;
-
-/// The extents that a type knows; none of a type without extents.
-fn dims(value_type: &ValueType) -> &[Dim]
-    ensures { result.now ≡ dims_of value_type.now }
-{
-    match value_type {
-        ValueType::Tensor(tensor) => tensor.dims.as_slice(),
-        ValueType::Nothing | ValueType::Scalar(_) | ValueType::Sharding | ValueType::Index => &[],
-    }
-}
 
 /// The extent of a grid on a written axis.
 fn extent_on(all: &[u64], axis: &i128) -> u64
@@ -84,27 +74,30 @@ pub(crate) fn described<'a>(alloc: Global, kind: &'a OpKind, g: &Grid) -> Option
     requires { AreAxesOf (length g.now.extents) (axes_of kind.now) }
     ensures some { IfSome result (IsDescription kind.now g.now.extents) }
     ensures none { IfNone result (collecting kind.now g.now.extents ≡ None) }
+    ensures grid { IsGrid g.now.extents }
 {
+    // asked for what holds of the extents of every grid
+    let _extents = extents(g);
     match kind {
         OpKind::AllGather(x) => Some(Described {
             way: Way::Gather(x.gather_axis),
-            dims: dims(&x.operand_type),
+            dims: dims_of(&x.operand_type),
         }),
         OpKind::AllReduce(x) => Some(Described {
             way: Way::Reduce(x.reduction),
-            dims: dims(&x.operand_type),
+            dims: dims_of(&x.operand_type),
         }),
         OpKind::ReduceScatter(x) => Some(Described {
             way: Way::Scatter(x.reduction, x.scatter_axis),
-            dims: dims(&x.operand_type),
+            dims: dims_of(&x.operand_type),
         }),
         OpKind::AllToAll(x) => Some(Described {
             way: Way::Exchange(x.split_axis, x.concat_axis),
-            dims: dims(&x.operand_type),
+            dims: dims_of(&x.operand_type),
         }),
         OpKind::Shift(x) => Some(Described {
             way: Way::Shift(shifting(alloc, x, g)),
-            dims: dims(&x.operand_type),
+            dims: dims_of(&x.operand_type),
         }),
         _ => None,
     }

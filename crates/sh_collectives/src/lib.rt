@@ -2,13 +2,21 @@
 //! members, or none where the group mismatches. The definitions stand in `sh_sem`.
 #![tactic(auto)]
 
+mod answers;
+mod combining;
 mod described;
+mod joining;
 mod laws;
 mod members;
+mod moving;
+mod parts;
+mod results;
 mod shapes;
 mod shifts;
 mod sizes;
 mod ways;
 
+pub use answers::shape_at;
 pub use laws::device_laws;
+pub use results::collect_at;
 pub use sizes::Shaped;

@@ -2,7 +2,7 @@ ghost use Rattle.std.specs.Prelude.{◌≡◌, ◌<◌, ◌≤◌, [], All, IfSo
 ghost use Rattle.std.specs.List.{list_all};
 ghost use Rattle.sh_base.specs.Limits.{max_devices};
 ghost use Rattle.sh_base.specs.Shape.{max_rank};
-ghost use Rattle.sh_collectives.specs.Ways.{CanWork, IsGroup, collecting_by, source_by};
+ghost use Rattle.sh_collectives.specs.Ways.{CanWork, IsGroup, collecting_by, places_asked, source_by};
 ghost use Rattle.sh_sem.specs.Collected as collected;
 ghost use Rattle.sh_sem.specs.Given.{of_dims};
 ghost use Rattle.sh_sem.specs.Pieces as pieces;
@@ -201,13 +201,25 @@ pub(crate) fn fitting_at(
     }
 }
 
+/// How many places of a group are asked for their results: only those of a shift differ in shape
+/// from place to place.
+fn asked(way: &Way, members: usize) -> usize
+    ensures value { result ≡ places_asked way.now members }
+    ensures within { result ≤ members }
+{
+    match way {
+        Way::Shift(_) => members,
+        Way::Gather(_) | Way::Reduce(_) | Way::Scatter(..) | Way::Exchange(..) => members.min(1),
+    }
+}
+
 /// Whether each place has a result of the extents that a type knows.
 pub(crate) fn all_fit(alloc: Global, dims: &[Dim], way: &Way, shapes: &[&Shape]) -> bool
     requires { CanWork way.now (map (λ s. s.now) shapes.now) }
     ensures { result ≡ is_some (collected.shapes_by dims.now (map (λ s. s.now) shapes.now)
         (collecting_by way.now)) }
 {
-    for place in 0..shapes.len() {
+    for place in 0..asked(way, shapes.len()) {
         match fitting_at(alloc, dims, way, shapes, place as u64) {
             Some(_) => {}
             None => return false,

@@ -27,5 +27,7 @@ pub mod TypingLaws
 pub mod ReachedLaws
 pub mod AskedRules
 pub mod SourceExample
+pub mod UseLaws
+pub mod SeatLaws
 pub mod RunLaws
 mod WorkExamples

@@ -10,4 +10,6 @@ pub mod Work
 pub mod Sizes
 pub mod Functions
 pub mod Stores
+pub mod Uses
+pub mod Seats
 pub mod Reached

@@ -10,6 +10,7 @@ ghost use Rattle.sh_turns.specs.Program.{all_there};
 
 use crate::steps::{Step, advance};
 use crate::store::Store;
+use crate::uses::{forget_ended, uses_of};
 use sh_base::{Items, Mem};
 use sh_ir::{Arg, Func, Op, OpClass};
 use sh_tensor::{Tensor, copy};
@@ -68,16 +69,21 @@ fn results(alloc: Global, store: &Store, names: &[u32]) -> Result<Option<Items<R
     Ok(Some(Items::from_vec(ts)))
 }
 
-/// Does operations one after the other.
+/// Does operations one after the other. A value is let go with the last operation that names it,
+/// unless it is returned.
 fn run(alloc: Global, ops: &[Op], names: &[u32], start: Store) -> Result<Evaluated, Mem>
     requires { CanEvaluateFrom ops.now (values_in start) }
     ensures { IfOk result (λ e. outcome_in e ≡ outcome_from 0 0 ops.now names.now (values_in start)) }
 {
+    let uses = uses_of(alloc, ops, names)?;
     let mut store = start;
     let mut work: u64 = 0;
     for (at, op) in ops.iter().enumerate() {
         match advance(alloc, op, &mut store, work)? {
-            Step::Done(sum) => work = sum,
+            Step::Done(sum) => {
+                work = sum;
+                forget_ended(&mut store, op, &uses, at as u64);
+            }
             Step::Stuck => return Ok(Evaluated::Stuck { op: at as u64 }),
             Step::TooMuch => return Ok(Evaluated::TooMuch { op: at as u64 }),
         }

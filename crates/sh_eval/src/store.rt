@@ -1,6 +1,7 @@
-ghost use Rattle.std.specs.Prelude.{◌≡◌, IfOk, None, OnOk, option_map};
+ghost use Rattle.std.specs.Prelude.{◌≡◌, ◌==◌, IfOk, None, OnOk, option_map};
 ghost use Rattle.std.specs.Option.{option_copied};
 ghost use Rattle.sh_eval.specs.Stores.{values_in};
+ghost use Rattle.sh_eval.specs.Uses.{changed_at};
 ghost use Rattle.sh_sem.specs.Meaning.{with_value};
 
 use indexmap::IndexMap;
@@ -57,5 +58,14 @@ impl Store {
             self.tensors.insert(name, t)?;
         }
         Ok(())
+    }
+
+    /// Lets go of the tensor of a name.
+    #[tactic(auto, unfolding(crate::specs::Stores::values_in))]
+    pub(crate) fn forget(&mut self, name: u32)
+        ensures { values_in self.new
+            ≡ changed_at (λ other. name == other) None (values_in self.old) }
+    {
+        self.tensors.swap_remove(&name);
     }
 }

@@ -11,7 +11,7 @@ use Rattle.std.proofs.lemmas.List.Sums.{fold-append}
 use Rattle.sh_base.specs.declared.numbers.Cell.{Cell}
 use Rattle.sh_base.specs.declared.numbers.Cell.TheVariants.{Undef}
 use Rattle.sh_loops.specs.Cells.{cells_by}
-use Rattle.sh_loops.specs.Folds.{visited}
+use Rattle.sh_loops.specs.Folds.{IsVisited, visited}
 use Rattle.sh_loops.proofs.CellLaws.{made_by, stuck_by}
 
 -- ---- one place
@@ -42,20 +42,15 @@ module _ (visit : ℕ → Option Cell → Option Cell) (place : ℕ → ℕ) whe
 
   -- ---- all places
 
-  pub record IsVisited (w : Cell → Type 0) (start : List Cell) (n : ℕ) (cells : List Cell) : Type 0 where
-    pub counted : length cells ≡ length start
-    pub each : (j : ℕ) → j < length start → visited visit place j (Some (get_or start j Undef)) n ≡ Some (get_or cells j Undef)
-    pub fitting : All w cells
-
-  pub none_visited : (w : Cell → Type 0) (start cells : List Cell) → cells ≡ start → All w start → IsVisited w start 0 cells
+  pub none_visited : (w : Cell → Type 0) (start cells : List Cell) → cells ≡ start → All w start → IsVisited visit place w start 0 cells
   none_visited w start cells e fit = record {
     counted = ap length e;
     each = λ j l. ap (λ cs. Some (get_or cs j Undef)) (sym e);
     fitting = subst (All w) (sym e) fit;
   }
 
-  pub one_visited : (w : Cell → Type 0) (start : List Cell) (n : ℕ) (cells new : List Cell) (p : ℕ) (c : Cell) → IsVisited w start n cells → p ≡ place n → p < length start
-      → Some c ≡ visit n (Some (get_or cells p Undef)) → w c → new ≡ set cells p c → IsVisited w start (n + 1) new
+  pub one_visited : (w : Cell → Type 0) (start : List Cell) (n : ℕ) (cells new : List Cell) (p : ℕ) (c : Cell) → IsVisited visit place w start n cells → p ≡ place n → p < length start
+      → Some c ≡ visit n (Some (get_or cells p Undef)) → w c → new ≡ set cells p c → IsVisited visit place w start (n + 1) new
   one_visited w start n cells new p c h at l e fit is = record {
     counted = ap length is ∙ length-set cells p c ∙ h.counted;
     each = λ j below.
@@ -73,11 +68,11 @@ module _ (visit : ℕ → Option Cell → Option Cell) (place : ℕ → ℕ) whe
     fitting = subst (All w) (sym is) (All-set w cells p c fit h.fitting);
   }
 
-  pub all_visited : (w : Cell → Type 0) (start : List Cell) (n : ℕ) (cells : List Cell) → IsVisited w start n cells
+  pub all_visited : (w : Cell → Type 0) (start : List Cell) (n : ℕ) (cells : List Cell) → IsVisited visit place w start n cells
       → cells_by (λ j. visited visit place j (Some (get_or start j Undef)) n) (length start) ≡ Some cells
   all_visited w start n cells h = made_by (λ j. visited visit place j (Some (get_or start j Undef)) n) (length start) cells h.counted h.each
 
-  pub one_stuck : (strict : (n : ℕ) → visit n None ≡ None) (w : Cell → Type 0) (start : List Cell) (n end : ℕ) (cells : List Cell) (p : ℕ) → IsVisited w start n cells → p ≡ place n → p < length start
+  pub one_stuck : (strict : (n : ℕ) → visit n None ≡ None) (w : Cell → Type 0) (start : List Cell) (n end : ℕ) (cells : List Cell) (p : ℕ) → IsVisited visit place w start n cells → p ≡ place n → p < length start
       → n < end → None ≡ visit n (Some (get_or cells p Undef)) → cells_by (λ j. visited visit place j (Some (get_or start j Undef)) end) (length start) ≡ None
   one_stuck strict w start n end cells p h at l before e =
       let here : visited visit place p (Some (get_or start p Undef)) (n + 1) ≡ None =

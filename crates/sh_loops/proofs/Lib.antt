@@ -13,3 +13,5 @@ pub mod PlaceLaws
 pub mod CountLaws
 pub mod PlacedLaws
 pub mod StructuredLaws
+pub mod RowLaws
+pub mod VisitLaws

@@ -15,7 +15,7 @@ unfolding coordinate_of
 coordinate-none point [] = refl
 coordinate-none point (l ∷ loops) = refl
 
-as_sum : (point loops : List ℕ) → coordinate_of point loops ≡ sum_by (λ l. get_or point l 0) loops
+pub as_sum : (point loops : List ℕ) → coordinate_of point loops ≡ sum_by (λ l. get_or point l 0) loops
 unfolding coordinate_of
 as_sum point loops = sum-map (λ l. get_or point l 0) loops
 

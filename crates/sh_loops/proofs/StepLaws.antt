@@ -14,7 +14,8 @@ use Rattle.sh_ir.specs.Loops.{LoopMap}
 use Rattle.sh_tensor.specs.Tensor.{TensorValue, at}
 use Rattle.sh_sem.specs.Nest.{index_at, input_cells}
 use Rattle.sh_loops.specs.Cells.{cells_by}
-use Rattle.sh_loops.proofs.FoldLaws.{IsVisited, all_visited, one_stuck}
+use Rattle.sh_loops.specs.Folds.{IsVisited}
+use Rattle.sh_loops.proofs.FoldLaws.{all_visited, one_stuck}
 use Rattle.sh_loops.specs.declared.steps.PointStep as declared
 use Rattle.sh_loops.specs.declared.steps.PointStep.TheVariants.{Copied, ProductAdded, Yielded}
 use Rattle.sh_loops.specs.declared.nests.Nest as memory
@@ -102,7 +103,7 @@ some_cell : (w : Width) (o : Option Cell) → ((c : Cell) → o ≡ Some c → I
 some_cell w None h = tt
 some_cell w (Some c) h = h c refl
 
-all_small : (point : List ℕ) → ((i : ℕ) → get_or point i 0 < 18446744073709551616) → AllByRecursion (λ k. k < 2 ^ 64) point
+pub all_small : (point : List ℕ) → ((i : ℕ) → get_or point i 0 < 18446744073709551616) → AllByRecursion (λ k. k < 2 ^ 64) point
 all_small [] h = tt
 all_small (k ∷ point) h = (h 0, all_small point (λ i. h (suc i)))
 

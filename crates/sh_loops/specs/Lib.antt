@@ -8,3 +8,4 @@ pub mod Regions
 pub mod Placing
 pub mod Structured
 pub mod NestSizes
+pub mod Rows

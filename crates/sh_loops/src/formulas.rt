@@ -6,8 +6,9 @@ ghost use Rattle.sh_loops.specs.Formulas.{result_width};
 ghost use Rattle.sh_loops.specs.Formulas.{result_width as width_given};
 ghost use Rattle.sh_sem.specs.Scalars.{chosen as chosen_cell, formula_cell};
 
+use crate::words::combined;
 use sh_base::{BinOp, CastOp, Cell, Predicate, Width};
-use sh_int::{apply, cast, compare};
+use sh_int::{cast, compare};
 
 /// An element operation of the `arith` dialect with the widths at which it works.
 #[derive(Clone, Copy, Debug)]
@@ -54,7 +55,7 @@ impl Formula {
         ensures within { IfSome result (λ cell. IsCellOf (result_width self) cell) }
     {
         match self {
-            Formula::Binary(op, w) => apply(op, w, a, b),
+            Formula::Binary(op, w) => combined(op, w, a, b),
             Formula::Compare(p, w) => Some(compare(p, w, a, b)),
             _ => None,
         }

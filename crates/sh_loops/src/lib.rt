@@ -10,10 +10,13 @@ mod operands;
 mod placing;
 mod points;
 mod regions;
+mod rows;
 mod sizes;
 mod steps;
 mod structures;
 mod types;
+mod visits;
+mod words;
 
 pub use formulas::Formula;
 pub use loops::natural;

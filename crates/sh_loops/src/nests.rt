@@ -1,16 +1,18 @@
-ghost use Rattle.std.specs.Prelude.{◌≡◌, ◌<◌, ◌≤◌, All, length, map, IfOk, IfSome, OnOk};
+ghost use Rattle.std.specs.Prelude.{◌≡◌, ◌<◌, ◌≤◌, All, length, map, IfOk, IfSome};
 ghost use Rattle.sh_base.specs.Shape.{cell_count, flat_of, IsIndexOf};
 ghost use Rattle.sh_base.specs.Cells.{IsCellOf};
 ghost use Rattle.sh_loops.specs.Cells.{cells_by};
-ghost use Rattle.sh_loops.specs.Nests.{AreInside, CanFold, StandsFor, folded_by, structured_value};
+ghost use Rattle.sh_loops.specs.Rows.{GoesOn, IsFoldedTo};
+ghost use Rattle.sh_loops.specs.Nests.{CanFold, StandsFor, folded_by, structured_value};
 ghost use Rattle.sh_ir.specs.Loops.{Structure};
 ghost use Rattle.sh_sem.specs.Given.{built_of};
-ghost use Rattle.sh_sem.specs.Nest.{Fixed, folded_cell, index_at as index_of_point, input_cells};
-ghost use Rattle.sh_tensor.specs.Tensor.{at as cell_of_tensor};
+ghost use Rattle.sh_sem.specs.Nest.{Fixed, folded_cell, index_at as index_of_point};
 
 use crate::operands::{cells_of, made, shape_of};
-use crate::points::{index_at, point_at};
+use crate::points::index_at;
+use crate::rows::{begin, first_row};
 use crate::steps::PointStep;
+use crate::visits::{empty_room, visit};
 use sh_base::{Cell, Cells, Ids, Items, Mem, Shape, flat};
 use sh_tensor::Tensor;
 use std::alloc::Global;
@@ -32,16 +34,8 @@ fn index_in(alloc: Global, dims: &[Ids], t: &Tensor, point: &Shape) -> Shape
     index_at(alloc, dims, point)
 }
 
-/// The cell that a tensor has at a loop point.
-fn cell_at(alloc: Global, dims: &[Ids], t: &Tensor, point: &Shape) -> Cell
-    requires { IsIndexOf t.now.shape (index_of_point dims.now point.now) }
-    ensures { result ≡ cell_of_tensor t.now (index_of_point dims.now point.now) }
-{
-    t.at(&index_in(alloc, dims, t, point))
-}
-
 /// The number of the cell that a tensor has at a loop point.
-fn place_in(alloc: Global, dims: &[Ids], t: &Tensor, point: &Shape) -> usize
+pub(crate) fn place_in(alloc: Global, dims: &[Ids], t: &Tensor, point: &Shape) -> usize
     requires { IsIndexOf t.now.shape (index_of_point dims.now point.now) }
     ensures value { result ≡ flat_of t.now.shape (index_of_point dims.now point.now) }
     ensures below { result < cell_count t.now.shape }
@@ -49,23 +43,55 @@ fn place_in(alloc: Global, dims: &[Ids], t: &Tensor, point: &Shape) -> usize
     flat(t.shape(), &index_in(alloc, dims, t, point)) as usize
 }
 
-/// Puts the cells of the inputs at a loop point in place of what the list holds.
-fn gather(
+/// Visits all points, row by row; no where one is stuck.
+fn visit_rows(
     alloc: Global,
-    cells: &mut Vec<Cell>,
-    maps: &[Items<Ids>],
+    nest: &Nest,
+    extents: &Shape,
+    count: u128,
     ins: &[&Tensor],
-    point: &Shape,
-) -> Result<(), Mem>
-    requires { AreInside maps.now (map (λ t. t.now) ins.now) point.now }
-    ensures { OnOk result (cells.new.items
-        ≡ input_cells maps.now (map (λ t. t.now) ins.now) point.now) }
+    outs: &Tensor,
+    cells: &mut Vec<Cell>,
+) -> Result<bool, Mem>
+    requires count { count ≡ cell_count extents.now }
+    requires folds { CanFold nest.now extents.now (map (λ t. t.now) ins.now) outs.now }
+    requires some { 0 < count }
+    requires counted { length outs.now.cells ≡ cell_count outs.now.shape }
+    requires before { IsFoldedTo nest.now extents.now (map (λ t. t.now) ins.now) outs.now
+        0 cells.old.items }
+    ensures { IfOk result (λ there. GoesOn nest.now extents.now (map (λ t. t.now) ins.now) outs.now
+        count there cells.new.items) }
 {
-    cells.clear();
-    for at in 0..maps.len() {
-        cells.push(cell_at(alloc, maps[at].as_slice(), ins[at], point))?;
+    let mut row = first_row(alloc, nest, extents, count, ins, outs)?;
+    let mut coordinates: Vec<u64> = Vec::new(alloc);
+    let mut room = empty_room(alloc);
+    for number in 0..count / u128::from(row.length) {
+        begin(
+            alloc,
+            &mut row,
+            &mut coordinates,
+            nest,
+            extents,
+            count,
+            number,
+            ins,
+            outs,
+        )?;
+        if !visit(
+            alloc,
+            nest,
+            extents,
+            ins,
+            outs,
+            &row,
+            &mut coordinates,
+            cells,
+            &mut room,
+        )? {
+            return Ok(false);
+        }
     }
-    Ok(())
+    Ok(true)
 }
 
 /// The output's cells once all points have been visited; none where one is stuck.
@@ -84,21 +110,14 @@ fn folded(
         (cell_count outs.now.shape)) }
     ensures fitting { IfOk result (λ out. IfSome out (All (IsCellOf outs.now.width))) }
 {
-    let width = outs.width();
     let mut cells: Vec<Cell> = Vec::from_slice(alloc, cells_of(outs))?;
-    let mut inputs: Vec<Cell> = Vec::with_capacity(alloc, ins.len())?;
-    let mut block: Vec<Cell> = Vec::new(alloc);
-    for number in 0..count {
-        let point = point_at(alloc, extents, count, number);
-        gather(alloc, &mut inputs, nest.inputs.as_slice(), ins, &point)?;
-        let place = place_in(alloc, nest.output.as_slice(), outs, &point);
-        let so_far = cells[place];
-        match nest.step.next(alloc, width, &point, inputs.as_slice(), so_far, &mut block)? {
-            Some(cell) => cells[place] = cell,
-            None => return Ok(None),
-        }
+    if count == 0 {
+        return Ok(Some(Items::from_vec(cells)));
     }
-    Ok(Some(Items::from_vec(cells)))
+    if visit_rows(alloc, nest, extents, count, ins, outs, &mut cells)? {
+        return Ok(Some(Items::from_vec(cells)));
+    }
+    Ok(None)
 }
 
 /// What a structured operation gives of its inputs and its output: at each index the fold of the

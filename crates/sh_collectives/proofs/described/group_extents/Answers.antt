@@ -1,8 +1,7 @@
-use Rattle.std.proofs.Common.{◌≡◌, ◌≤◌, ◌<◌, ap, sym, ◌∙◌, arith, length, get_or, refl, pos}
+use Rattle.std.proofs.Common.{ap, ◌∙◌, arith, length, refl}
 use Rattle.std.proofs.lemmas.Grind.{common_steps}
 use Rattle.std.proofs.lemmas.List.{length-map}
 use Rattle.sh_grid.specs.Grid.{on_axes}
-use Rattle.sh_grid.proofs.GroupLaws.{length-on_axes}
 use Rattle.sh_ir.specs.Numbers.{as_naturals, as_natural}
 use Rattle.sh_sharding.proofs.AxisListLaws.{few_axes}
 use Rattle.sh_collectives.proofs.DescribedLaws.{axis_below, extent_of_axis, as_many}

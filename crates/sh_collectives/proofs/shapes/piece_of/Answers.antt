@@ -1,4 +1,4 @@
-use Rattle.std.proofs.Common.{◌≡◌, sym, ◌∙◌, subst, get_or, Some, None}
+use Rattle.std.proofs.Common.{◌≡◌, ◌∙◌, subst, get_or, Some, None}
 use Rattle.std.specs.Prelude.{option_map}
 use Rattle.sh_sem.specs.Pieces.{equal_piece}
 use Rattle.sh_collectives.proofs.GroupLaws.{no_piece, is_piece}

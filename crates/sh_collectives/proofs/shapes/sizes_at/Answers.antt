@@ -1,4 +1,4 @@
-use Rattle.std.proofs.Common.{◌≡◌, map, ap, sym, ◌∙◌, arith, subst, length, Some, option_map, option_and_then}
+use Rattle.std.proofs.Common.{map, ap, sym, ◌∙◌, arith, Some, option_and_then}
 use Rattle.std.proofs.lemmas.List.{length-map}
 use Rattle.sh_collectives.specs.declared.ways.Way.TheVariants as way
 use Rattle.sh_sem.specs.Collected.{scattered_shape, exchanged_shape}

@@ -1,4 +1,4 @@
-use Rattle.std.proofs.Common.{◌≡◌, ◌<◌, sym, ◌∙◌, arith, subst, length}
+use Rattle.std.proofs.Common.{◌<◌, sym, arith, subst, length}
 use Rattle.std.specs.Prelude.{IfSome}
 use Rattle.sh_base.proofs.IndexLaws.{IsIndexOf-entry, IsIndexOf-long, IsIndexOf-set_entry}
 use Rattle.sh_collectives.proofs.ShiftLaws.{extent_le}

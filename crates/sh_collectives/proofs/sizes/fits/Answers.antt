@@ -1,5 +1,4 @@
 use Rattle.std.proofs.Common.{sym, ◌∙◌, refl}
-use Rattle.sh_sem.specs.Types.{have_extents}
 use Rattle.sh_collectives.proofs.SizeLaws.{other_rank, extents_fail, extents_pass, extents_end}
 use Rattle.sh_collectives.proofs.sizes.fits.Goals as goal
 

@@ -1,6 +1,6 @@
-use Rattle.std.proofs.Common.{ap, ◌∙◌, arith, length, get_or, refl}
+use Rattle.std.proofs.Common.{arith, get_or, refl}
 use Rattle.std.proofs.lemmas.Grind.{common_steps}
-use Rattle.sh_collectives.proofs.ListLaws.{pushed, copied}
+use Rattle.sh_collectives.proofs.ListLaws.{pushed}
 use Rattle.sh_collectives.proofs.sizes.shape_with.Goals as goal
 
 pub loop-size-preserved : goal.loop-size-preserved

@@ -1,7 +1,7 @@
-use Rattle.std.proofs.Common.{ap, ◌∙◌, arith, length, set}
+use Rattle.std.proofs.Common.{arith, set}
 use Rattle.std.proofs.lemmas.Grind.{common_steps}
 use Rattle.std.proofs.lemmas.List.{length-set}
-use Rattle.sh_collectives.proofs.ListLaws.{pushed, copied}
+use Rattle.sh_collectives.proofs.ListLaws.{pushed}
 use Rattle.sh_collectives.proofs.sizes.sizes_with.Goals as goal
 
 pub loop-at-preserved : goal.loop-at-preserved

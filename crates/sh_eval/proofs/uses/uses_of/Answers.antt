@@ -1,0 +1,11 @@
+use Rattle.std.proofs.Common.{get_or, None, refl}
+use Rattle.sh_eval.specs.Uses.{uses_in}
+use Rattle.sh_eval.proofs.UseLaws.{changed_all, next_changed}
+use Rattle.sh_eval.proofs.uses.uses_of.Goals as goal
+
+pub loop-name-preserved : goal.loop-name-preserved
+loop-name-preserved c =
+    next_changed c.args.returned.now c.loop-name.name-index (get_or c.args.returned.now c.loop-name.name-index 0) 0 (uses_in c.loop-name.uses) (uses_in c.remove.new.self) _ c.loop-name-test.true refl None c.remove.ensures c.loop-name.invariant
+
+pub returns : goal.returns
+returns c = changed_all c.args.returned.now c.loop-name.name-index None (uses_in c.loop-name.uses) _ c.loop-name-test.false c.loop-name.invariant
