@@ -5,7 +5,7 @@ use Rattle.sh_base.specs.Cells.{IsCellOf}
 use Rattle.sh_base.specs.declared.numbers.Cell.{Cell}
 use Rattle.sh_base.specs.declared.numbers.Width.{Width}
 use Rattle.sh_base.specs.Shape.{cell_count}
-use Rattle.sh_loops.proofs.FormulaLaws.{cells_fit}
+use Rattle.sh_sem.proofs.TensorCells.{cells_fit}
 use Rattle.sh_tensor.specs.Tensor.{IsTensor, build, cells_of}
 
 -- cells of which the tensor with these cells at its indices can be made

@@ -11,7 +11,7 @@ use crate::ways::Described;
 use sh_base::Shape;
 use sh_grid::Grid;
 use sh_ir::{Dim, Op};
-use sh_loops::dims_of;
+use sh_sem::dims_of;
 use std::alloc::Global;
 
 /// Whether the members of a group have results: sizes agree, and the extents of all operands and of

@@ -10,7 +10,7 @@ ghost use Rattle.sh_tensor.specs.Tensor as tensor;
 
 use sh_base::{Cell, Kind, Mem, Shape, Width};
 use sh_int::reduce_cell;
-use sh_loops::{cells_of, count_of};
+use sh_sem::{cells_of, count_of};
 use sh_tensor::{Tensor, build};
 use std::alloc::Global;
 

@@ -9,7 +9,7 @@ use crate::ways::{Described, Shifting, Way};
 use sh_base::{Shape, shape};
 use sh_grid::{Grid, extents};
 use sh_ir::{OpKind, Shift};
-use sh_loops::dims_of;
+use sh_sem::dims_of;
 use smallvec::SmallVec;
 use std::alloc::Global;
 

@@ -6,7 +6,7 @@ ghost use Rattle.sh_tensor.specs.Runs.{joined_row, joined_rows};
 ghost use Rattle.sh_tensor.specs.Tensor as tensor;
 
 use sh_base::{Cell, Mem, Shape, Width, shape};
-use sh_loops::count_of;
+use sh_sem::count_of;
 use sh_tensor::{Tensor, build};
 use std::alloc::Global;
 

@@ -10,7 +10,7 @@ ghost use Rattle.sh_tensor.specs.Tensor as tensor;
 use crate::shifts::source;
 use crate::ways::Shifting;
 use sh_base::{Cell, Mem, Shape, Width};
-use sh_loops::count_of;
+use sh_sem::count_of;
 use sh_tensor::{Tensor, build, copy};
 use std::alloc::Global;
 

@@ -19,7 +19,7 @@ use crate::ways::{Described, Way};
 use sh_base::{Mem, Shape, Width};
 use sh_grid::Grid;
 use sh_ir::{Dim, Op};
-use sh_loops::{dims_of, width_of};
+use sh_sem::{dims_of, width_of};
 use sh_tensor::Tensor;
 use std::alloc::Global;
 

@@ -23,7 +23,7 @@ use Rattle.sh_ir.specs.Loops.{LoopMap, Step, Structure, by_region, copied, produ
 use Rattle.sh_loops.specs.Placing.{AreCellsOf}
 use Rattle.sh_loops.specs.Structured.{CanNest, FitsStep, widths_of}
 use Rattle.sh_loops.proofs.CellLaws.{built_by, length-cells_by, read_by}
-use Rattle.sh_loops.proofs.FormulaLaws.{cells_fit}
+use Rattle.sh_sem.proofs.TensorCells.{cells_fit}
 use Rattle.sh_loops.proofs.PlacedLaws.{region_within}
 use Rattle.sh_loops.proofs.StepLaws.{extended_same}
 use Rattle.sh_loops.proofs.StructuredLaws.{got_within}

@@ -32,7 +32,7 @@ use Rattle.sh_ir.specs.Typing.{typing_of}
 use Rattle.sh_ir.specs.Written.{written_by}
 use Rattle.sh_loops.specs.Structured.{CanNest, widths_of}
 use Rattle.sh_loops.proofs.CellLaws.{constant_fits, undefined_fits}
-use Rattle.sh_loops.proofs.FormulaLaws.{cells_fit}
+use Rattle.sh_sem.proofs.TensorCells.{cells_fit}
 use Rattle.sh_loops.proofs.InsideLaws.{below_by, both_left, both_right}
 use Rattle.sh_loops.proofs.StructuredLaws.{got_within}
 use Rattle.sh_sem.specs.Given.{Giving, alone, built_of, cell_given, given, gives_cells, gives_collapse, gives_constant, gives_expansion, gives_insertion, gives_nest, gives_slice, gives_undefined, giving, have_all_extents, of_dims, of_one, of_two, shape_by, shape_given}

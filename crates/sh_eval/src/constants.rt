@@ -7,7 +7,8 @@ ghost use Rattle.sh_sem.specs.Scalars.{constant_cell, held_cell};
 
 use sh_base::{Cell, Cells, Items, Mem, Shape, Width};
 use sh_ir::{Constant, Contents};
-use sh_loops::{count_of, made};
+use sh_loops::made;
+use sh_sem::count_of;
 use sh_tensor::Tensor;
 use std::alloc::Global;
 

@@ -10,7 +10,7 @@ use crate::constants::{constant, undefined};
 use crate::layouts::fitting;
 use sh_base::{Mem, Width};
 use sh_ir::{Constant, Dim};
-use sh_loops::dims_of;
+use sh_sem::dims_of;
 use sh_tensor::Tensor;
 use std::alloc::Global;
 

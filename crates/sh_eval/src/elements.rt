@@ -12,7 +12,8 @@ ghost use Rattle.sh_loops.specs.Formulas.{
 };
 
 use sh_base::{Cell, Cells, Items, Mem};
-use sh_loops::{Formula, cells_of, made, shape_of};
+use sh_loops::{Formula, made, shape_of};
+use sh_sem::cells_of;
 use sh_tensor::Tensor;
 use std::alloc::Global;
 

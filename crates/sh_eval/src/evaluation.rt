@@ -19,7 +19,8 @@ use crate::typing::are_known;
 use crate::values::{of_one_op, of_three_op, of_two_op, with_extents};
 use sh_base::{Mem, Width};
 use sh_ir::{Dim, Op, OpClass, OpKind, Take};
-use sh_loops::{Formula, dims_of, structured_op, width_of};
+use sh_loops::{Formula, structured_op};
+use sh_sem::{dims_of, width_of};
 use sh_tensor::Tensor;
 use std::alloc::Global;
 

@@ -16,7 +16,7 @@ use sh_base::Mem;
 use sh_ir::{
     CollapseShape, Constant, Dim, ExpandShape, ExtractSlice, InsertSlice, Op, OpClass, OpKind,
 };
-use sh_loops::dims_of;
+use sh_sem::dims_of;
 use sh_tensor::Tensor;
 use std::alloc::Global;
 

@@ -16,7 +16,8 @@ use crate::shapes::{has_cut_extents, joined_shape, narrow, padded_shape, wide, w
 use crate::slices::{are_extents, are_inside, ranges_of, sizes};
 use sh_base::{Duplicate, Mem, Shape, Width, count};
 use sh_ir::{CollapseShape, Dim, ExpandShape, ExtractSlice, InsertSlice, Pad};
-use sh_loops::{dims_of, made};
+use sh_loops::made;
+use sh_sem::dims_of;
 use sh_tensor::Tensor;
 use std::alloc::Global;
 

@@ -6,7 +6,7 @@ ghost use Rattle.sh_eval.specs.Cuts.{cut, cut_index};
 ghost use Rattle.sh_tensor.specs.Tensor.{at as cell_of_tensor};
 
 use sh_base::Cell;
-use sh_loops::cells_of;
+use sh_sem::cells_of;
 use sh_tensor::Tensor;
 
 /// The coordinate along a dimension; 0 where there is none.

@@ -9,7 +9,7 @@ use crate::pieces::{joined, moved, padded};
 use crate::reading::cell_numbered;
 use crate::slices::{SliceRange, inserted, sliced};
 use sh_base::{Cell, Cells, Items, Mem, Numbers, Shape, Width, unflat};
-use sh_loops::{cells_of, count_of};
+use sh_sem::{cells_of, count_of};
 use sh_tensor::Tensor;
 use std::alloc::Global;
 

@@ -6,7 +6,7 @@ ghost use Rattle.sh_sem.specs.Given.{have_all_extents as all_have_extents};
 
 use crate::shapes::has_extents;
 use sh_ir::{InsOuts, OpClass, OpKind, ValueType};
-use sh_loops::dims_of;
+use sh_sem::dims_of;
 use sh_tensor::Tensor;
 
 /// One of two types.

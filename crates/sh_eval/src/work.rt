@@ -16,7 +16,8 @@ use crate::shapes::has_extents;
 use crate::typing::are_known;
 use sh_base::Mem;
 use sh_ir::{Op, OpClass};
-use sh_loops::{NestSize, count_of, dims_of, is_structured, nest_size};
+use sh_loops::{NestSize, is_structured, nest_size};
+use sh_sem::{count_of, dims_of};
 use sh_tensor::Tensor;
 use std::alloc::Global;
 

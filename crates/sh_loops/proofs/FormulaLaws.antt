@@ -69,13 +69,3 @@ cells_made f shape ts n w made_shape cells h counted width is e =
 pub counted_by : (f : ℕ → Option Cell) (n m : ℕ) (cells : Option (List Cell)) → cells ≡ cells_by f n → n ≡ m → IfSome cells (λ cs. length cs ≡ m)
 counted_by f n m None e same = tt
 counted_by f n m (Some cs) e same = length-cells_by f n cs (sym e) ∙ same
-
--- the cells of a tensor are of its width
-pub cells_fit : (t : TensorValue) (w : Width) → IsTensor t → t.width ≡ w → All (IsCellOf w) t.cells
-unfolding at
-cells_fit t w whole same k d l =
-    let below : k < cell_count t.shape = rw (← whole.counted) l in
-    let cell : IsCellOf t.width (get_or t.cells (flat_of t.shape (unflat_of t.shape k)) Undef) = whole.fitting (unflat_of t.shape k) (unflat_of-within t.shape k below) in
-    let read : get_or t.cells (flat_of t.shape (unflat_of t.shape k)) Undef ≡ get_or t.cells k d =
-    ap (λ n. get_or t.cells n Undef) (flat_of-unflat_of t.shape k below) ∙ get_or_default t.cells k Undef d l in
-    subst (λ v. IsCellOf v (get_or t.cells k d)) same (subst (IsCellOf t.width) read cell)

@@ -26,7 +26,7 @@ use Rattle.sh_loops.specs.declared.nest_sizes.NestSize.{NestSize}
 use Rattle.sh_loops.specs.Placing.{AreCellsOf}
 use Rattle.sh_loops.specs.Structured.{CanFoldParts, CanNest, FitsStep, IsOfStructure, IsStep, fixed_by, value_by, widths_of}
 use Rattle.sh_loops.proofs.CountLaws.{points_below}
-use Rattle.sh_loops.proofs.FormulaLaws.{cells_fit}
+use Rattle.sh_sem.proofs.TensorCells.{cells_fit}
 use Rattle.sh_loops.proofs.InsideLaws.{agreeing_inside}
 use Rattle.std.specs.List.{range_with_len}
 use Rattle.sh_loops.proofs.PlacedLaws.{alike_region, alike_runs, can_run, region_within}

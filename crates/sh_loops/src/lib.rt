@@ -14,13 +14,11 @@ mod rows;
 mod sizes;
 mod steps;
 mod structures;
-mod types;
 mod visits;
 mod words;
 
 pub use formulas::Formula;
 pub use loops::natural;
 pub use nest_sizes::{NestSize, is_structured, nest_size};
-pub use operands::{cells_of, count_of, made, shape_of};
+pub use operands::{made, shape_of};
 pub use structures::structured_op;
-pub use types::{dims_of, width_of};

@@ -8,12 +8,13 @@ ghost use Rattle.sh_ir.specs.Loops.{Structure};
 ghost use Rattle.sh_sem.specs.Given.{built_of};
 ghost use Rattle.sh_sem.specs.Nest.{Fixed, folded_cell, index_at as index_of_point};
 
-use crate::operands::{cells_of, made, shape_of};
+use crate::operands::{made, shape_of};
 use crate::points::index_at;
 use crate::rows::{begin, first_row};
 use crate::steps::PointStep;
 use crate::visits::{empty_room, visit};
 use sh_base::{Cell, Cells, Ids, Items, Mem, Shape, flat};
+use sh_sem::cells_of;
 use sh_tensor::Tensor;
 use std::alloc::Global;
 

@@ -3,7 +3,7 @@ ghost use Rattle.sh_base.specs.Cells.{IsCellOf};
 ghost use Rattle.sh_loops.specs.Cells.{tensor_of};
 ghost use Rattle.sh_base.specs.Shape.{cell_count, max_cells};
 
-use sh_base::{Cell, Cells, Shape, Width, count, shape};
+use sh_base::{Cells, Shape, Width, shape};
 use sh_tensor::{Tensor, build};
 use std::alloc::Global;
 
@@ -13,24 +13,6 @@ pub fn shape_of(alloc: Global, t: &Tensor) -> Shape
     ensures small { cell_count result ≤ max_cells }
 {
     shape(alloc, t.shape().extents())
-}
-
-/// How many cells a tensor of a shape has.
-pub fn count_of(shape: &Shape) -> usize
-    requires { cell_count shape.now ≤ max_cells }
-    ensures { result ≡ cell_count shape.now }
-{
-    count(shape).unwrap() as usize
-}
-
-/// The cells of a tensor, each of its width.
-pub fn cells_of(t: &Tensor) -> &[Cell]
-    ensures value { result.now ≡ t.now.cells }
-    ensures counted { length result.now ≡ cell_count t.now.shape }
-    ensures fitting { All (IsCellOf t.now.width) result.now }
-{
-    let _whole = t.shape();
-    t.cells()
 }
 
 /// The tensor of these cells, if they are there. It takes no memory.

@@ -12,10 +12,10 @@ ghost use Rattle.sh_sem.specs.Scalars.{cast as cast_formula, constant_cell, form
 
 use crate::formulas::Formula;
 use crate::steps::same_width;
-use crate::types::width_of;
 use sh_base::{CastOp, Cell, Cells, Items, Mem, Width};
 use sh_int::cast;
 use sh_ir::{BodyKind, Contents, ValueType};
+use sh_sem::width_of;
 use std::alloc::Global;
 
 /// What an operation of a region does.

@@ -3,3 +3,4 @@ pub mod Groups
 mod Layouts
 mod Samples
 mod Structured
+pub mod TensorCells

@@ -1,8 +1,8 @@
 use Rattle.std.proofs.Common.{refl, sym, subst}
 use Rattle.std.specs.List.{All}
 use Rattle.sh_base.specs.Cells.{IsCellOf}
-use Rattle.sh_loops.proofs.FormulaLaws.{cells_fit}
-use Rattle.sh_loops.proofs.operands.cells_of.Goals as goal
+use Rattle.sh_sem.proofs.TensorCells.{cells_fit}
+use Rattle.sh_sem.proofs.reading.cells_of.Goals as goal
 
 pub returns-clause-fitting : goal.returns-clause-fitting
 returns-clause-fitting c =
