@@ -1,0 +1,5 @@
+pub mod Proposals
+pub mod Thinned
+pub mod Weights
+pub mod Least
+pub mod Bounds
