@@ -1,0 +1,10 @@
+pub mod InterfaceLaws
+pub mod ListedLaws
+pub mod NestLaws
+pub mod Pairs
+pub mod PermutedLaws
+pub mod ReadLaws
+pub mod ReadOff
+pub mod RowLaws
+pub mod SourceTypes
+pub mod VerifiedLaws

@@ -1,0 +1,12 @@
+pub mod Combining
+pub mod Cuts
+pub mod DeviceForm
+pub mod Divisions
+pub mod Ifaces
+pub mod Kept
+pub mod Loops
+pub mod Nests
+pub mod Propositions
+pub mod Reading
+pub mod Rules
+pub mod Structured
