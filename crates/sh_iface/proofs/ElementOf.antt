@@ -46,15 +46,15 @@ use Rattle.sh_iface.specs.Verified.{IsOfVerified}
 use Rattle.sh_iface.specs.Meaning.{operand_count}
 use Rattle.sh_iface.specs.Whole.{IsInterfaceOf, leading_scalars, part_operands, whole_of}
 
-both : (a b : Bool) → (a && b) ≡ true → (a ≡ true) × (b ≡ true)
+pub both : (a b : Bool) → (a && b) ≡ true → (a ≡ true) × (b ≡ true)
 both true b h = (refl, h)
 both false b h = absurd (cc)
 
-neither : (a b : Bool) → (a || b) ≡ false → (a ≡ false) × (b ≡ false)
+pub neither : (a b : Bool) → (a || b) ≡ false → (a ≡ false) × (b ≡ false)
 neither true b h = absurd (cc)
 neither false b h = (refl, h)
 
-is_not : (b : Bool) → not b ≡ true → b ≡ false
+pub is_not : (b : Bool) → not b ≡ true → b ≡ false
 is_not true h = absurd (cc)
 is_not false h = refl
 
@@ -73,7 +73,7 @@ counted_known : (shape : List ℕ) → map counted_dim (known_dims shape) ≡ ma
 counted_known [] = refl
 counted_known (n ∷ shape) = ap (λ ns. max 1 n ∷ ns) (counted_known shape)
 
-agree_known : (s t : List ℕ) → shapes_agree (known_dims s) (known_dims t) ≡ true → s ≡ t
+pub agree_known : (s t : List ℕ) → shapes_agree (known_dims s) (known_dims t) ≡ true → s ≡ t
 agree_known [] [] h = refl
 agree_known [] (n ∷ t) h = absurd (cc)
 agree_known (m ∷ s) [] h = absurd (cc)
@@ -83,14 +83,14 @@ agree_known (m ∷ s) (n ∷ t) h =
     ap₂ ◌∷◌ same (agree_known s t parts.1)
 
 -- a tensor type that keeps the limits, all of whose extents are known
-record IsSourceType (t : ValueType) : Type 0 where
-  width : Width
-  shape : List ℕ
-  is : t ≡ tensor_of (known_dims shape) width
-  short : length shape ≤ max_rank
-  small : counted_cells shape ≤ max_cells
+pub record IsSourceType (t : ValueType) : Type 0 where
+  pub width : Width
+  pub shape : List ℕ
+  pub is : t ≡ tensor_of (known_dims shape) width
+  pub short : length shape ≤ max_rank
+  pub small : counted_cells shape ≤ max_cells
 
-source_type : (t : ValueType) → is_spelled_type t ≡ true → not (is_scalar t) ≡ true → has_differing t ≡ false → has_few_dims t ≡ true → has_few_cells t ≡ true → IsSourceType t
+pub source_type : (t : ValueType) → is_spelled_type t ≡ true → not (is_scalar t) ≡ true → has_differing t ≡ false → has_few_dims t ≡ true → has_few_cells t ≡ true → IsSourceType t
 unfolding has_few_dims has_few_cells
 source_type (Tensor t) spelled tensor known dims cells =
     let shape = map extent_of t.dims in
@@ -111,7 +111,7 @@ source_type Nothing spelled tensor known dims cells = absurd (cc)
 source_type Sharding spelled tensor known dims cells = absurd (cc)
 source_type Index spelled tensor known dims cells = absurd (cc)
 
-source_types : (ts : List ValueType) → list_all is_spelled_type ts ≡ true → list_all (λ t. not (is_scalar t)) ts ≡ true → list_any has_differing ts ≡ false → list_all has_few_dims ts ≡ true → list_all has_few_cells ts ≡ true
+pub source_types : (ts : List ValueType) → list_all is_spelled_type ts ≡ true → list_all (λ t. not (is_scalar t)) ts ≡ true → list_any has_differing ts ≡ false → list_all has_few_dims ts ≡ true → list_all has_few_cells ts ≡ true
     → AllByRecursion IsSourceType ts
 source_types [] spelled tensors known dims cells = tt
 source_types (t ∷ ts) spelled tensors known dims cells =
@@ -125,19 +125,19 @@ source_types (t ∷ ts) spelled tensors known dims cells =
 -- ---- what the rules say
 
 -- of operands, results and types
-record Sound (op : Op) (h : IsOfVerified op) : Type 0 where
-  tensors : list_all (λ t. not (is_scalar t)) (tensor_types op.kind op.result) ≡ true
-  operands : operands_fit h.scope op.kind op.result ≡ true
-  result : result_fits h.scope op.kind op.result ≡ true
-  known : list_any has_differing (op_types_of op) ≡ false
-  dims : list_all has_few_dims (op_types_of op) ≡ true
-  cells : list_all has_few_cells (op_types_of op) ≡ true
+pub record Sound (op : Op) (h : IsOfVerified op) : Type 0 where
+  pub tensors : list_all (λ t. not (is_scalar t)) (tensor_types op.kind op.result) ≡ true
+  pub operands : operands_fit h.scope op.kind op.result ≡ true
+  pub result : result_fits h.scope op.kind op.result ≡ true
+  pub known : list_any has_differing (op_types_of op) ≡ false
+  pub dims : list_all has_few_dims (op_types_of op) ≡ true
+  pub cells : list_all has_few_cells (op_types_of op) ≡ true
 
 in_source : (a b : Bool) (F : List ℕ → Bool) (device : Option (List ℕ)) → device ≡ None → (a && option_map_or F device b) ≡ true → b ≡ true
 in_source a b F None e h = (both a b h).1
 in_source a b F (Some g) e h = absurd (cc)
 
-sound : (op : Op) (h : IsOfVerified op) → Sound op h
+pub sound : (op : Op) (h : IsOfVerified op) → Sound op h
 unfolding keeps takes_operands is_in_form
 sound op h =
     let v3 = both _ _ (both _ _ (both _ _ (kept_here V3 h.scope op (h.keeps V3))).1).1 in
@@ -339,7 +339,7 @@ take_every [] = refl
 take_every (x ∷ xs) = ap (λ ys. x ∷ ys) (take_every xs)
 
 -- with no scalar before the tensors the order is the written one
-in_order : (k : ℕ) (ts : List TensorValue) → k ≡ 0 → drop (length ts - k) ts ++ take (length ts - k) ts ≡ ts
+pub in_order : (k : ℕ) (ts : List TensorValue) → k ≡ 0 → drop (length ts - k) ts ++ take (length ts - k) ts ≡ ts
 in_order k ts none =
     let all : length ts - k ≡ length ts = omega (arith, none) in
     ap (λ n. drop n ts ++ take n ts) all ∙ ap₂ ◌++◌ (drop_every ts) (take_every ts)

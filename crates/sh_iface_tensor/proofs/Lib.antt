@@ -1,0 +1,4 @@
+pub mod LocalLaws
+pub mod SliceNest
+pub mod SliceOf
+pub mod SliceReads
