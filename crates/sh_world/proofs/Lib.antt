@@ -1,0 +1,12 @@
+pub mod GroupLaws
+pub mod StateLaws
+pub mod PlaceLaws
+pub mod MachineLaws
+pub mod TurnLaws
+pub mod SoundLaws
+pub mod TakeLaws
+pub mod StartLaws
+pub mod NextLaws
+pub mod AfterLaws
+pub mod WorldLaws
+pub mod AnswerLaws
