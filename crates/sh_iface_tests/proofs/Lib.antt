@@ -1,0 +1,3 @@
+pub mod SourceOps
+pub mod VerifiedSource
+pub mod PartsLike
