@@ -29,7 +29,7 @@ pub enum Evaluated {
 }
 
 /// The names that the return gives back.
-fn returned(ops: &[Op]) -> &[u32]
+pub fn returned(ops: &[Op]) -> &[u32]
     ensures { result.now ≡ names_returned ops.now }
 {
     for op in ops {

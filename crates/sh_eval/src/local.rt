@@ -39,7 +39,7 @@ fn axis_of(rank: usize, axis: &i128) -> u64
 }
 
 /// Written axes of a grid.
-fn axes_on(alloc: Global, g: &Grid, axes: &[i128]) -> Shape
+pub fn axes_on(alloc: Global, g: &Grid, axes: &[i128]) -> Shape
     requires { AreAxesOf (length g.now.extents) (as_naturals axes.now) }
     ensures { result ≡ as_naturals axes.now }
 {

@@ -1,0 +1,7 @@
+pub mod GroupRows
+pub mod Given
+pub mod Faults
+pub mod Alike
+pub mod Progress
+pub mod Starts
+pub mod Locked

@@ -1,0 +1,12 @@
+use Rattle.std.proofs.Common.{◌≡◌, map}
+use Rattle.sh_grid.specs.Grid.{group_size_of, member_of}
+use Rattle.sh_lockstep.specs.Steps.{operand_on}
+use Rattle.sh_lockstep.specs.Tables.{values_in}
+use Rattle.sh_lockstep.proofs.GroupRows.{from_place, so_far}
+use Rattle.sh_lockstep.proofs.steps.group_operands.Given as goal
+
+abbrev pub invariant-loop-place : goal.invariant-loop-place
+invariant-loop-place l =
+    so_far (map (λ t. t.now) l.ts.items)
+    (from_place (λ p. operand_on l.op (values_in l.table (member_of l.g.extents l.axes l.device p))) (group_size_of l.g.extents l.axes) l.place)
+    ≡ from_place (λ p. operand_on l.op (values_in l.table (member_of l.g.extents l.axes l.device p))) (group_size_of l.g.extents l.axes) 0
