@@ -15,3 +15,4 @@ mod PartLaws
 mod MovingLaws
 mod ValueLaws
 mod ResultLaws
+pub mod PlaceRows

@@ -1,14 +1,16 @@
 -- The operands of a group.
 use Rattle.std.specs.Prelude.{◌≡◌, ℕ, true, List, length, map, Option, IfSome, option_map, option_and_then, slice_get}
-use Rattle.std.specs.List.{All}
+use Rattle.std.specs.List.{All, range_with_len}
 use Rattle.sh_base.specs.declared.numbers.Width.{Width}
-use Rattle.sh_sem.specs.Collected.{piece_of}
+use Rattle.sh_sem.specs.Collected.{collected, piece_of}
 use Rattle.sh_tensor.specs.Tensor.{TensorValue, IsTensor, build}
 use Rattle.sh_ir.specs.declared.types.Dim.{Dim}
 use Rattle.sh_collectives.specs.declared.ways.Way.{Way}
 use Rattle.sh_collectives.specs.Described.{shapes_given}
 use Rattle.sh_collectives.specs.Sizes.{is_small}
 use Rattle.sh_collectives.specs.Ways.{collecting_by}
+use Rattle.sh_ir.specs.declared.operations.Op.{Op}
+use Rattle.sh_turns.specs.Program.{all_there}
 
 -- tensors of one width
 pub record AreTensors (w : Width) (ts : List TensorValue) : Type 0 where
@@ -33,3 +35,7 @@ value_by operand result width w ts place =
 -- a shape that is there is small
 abbrev pub IsSmall : Option (List ℕ) → Type 0
 IsSmall shape = IfSome shape (λ s. is_small s ≡ true)
+
+-- what a collective gives to each member of a group, in group order
+abbrev pub group_results : Op → List ℕ → List TensorValue → Option (List TensorValue)
+group_results op grid ts = all_there (map (collected op grid ts) (range_with_len 0 (length ts)))

@@ -5,6 +5,7 @@
 mod answers;
 mod combining;
 mod described;
+mod groups;
 mod joining;
 mod laws;
 mod members;
@@ -17,6 +18,7 @@ mod sizes;
 mod ways;
 
 pub use answers::shape_at;
+pub use groups::collect;
 pub use laws::device_laws;
 pub use results::collect_at;
 pub use sizes::Shaped;

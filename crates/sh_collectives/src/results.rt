@@ -37,7 +37,6 @@ fn shapes_of<'a>(alloc: Global, ts: &[&'a Tensor]) -> Result<Vec<&'a Shape>, Mem
 }
 
 /// What a collective gives at a place, of this shape.
-
 fn value_at(
     alloc: Global,
     way: &Way,

@@ -34,8 +34,3 @@ module _ {V : Type 0} (p : Program V) where
       let here = first_is (λ d. is_none (value p k d)) p.devices c on (ap is_none none) (λ d l. not_none (value p k d) (lower d l)) in
       let first = first_is (λ i. is_some (lacking p i)) p.size k below (ap is_some here) (λ i l. none_lacking i (λ d m. earlier i d l m)) in
       ap (outcome p) first ∙ ap (fault_at p k) here
-
-  -- and where none is lacking it is done
-  pub is_done_where : ((i d : ℕ) → i < p.size → d < p.devices → IsSome (value p i d))
-      → lockstep p ≡ Done (map (results_of p) (range_with_len 0 p.devices))
-  is_done_where all = ap (outcome p) (none_below (λ i. is_some (lacking p i)) p.size (λ i l. none_lacking i (λ d m. all i d l m)))

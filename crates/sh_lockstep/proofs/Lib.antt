@@ -5,3 +5,4 @@ pub mod Alike
 pub mod Progress
 pub mod Starts
 pub mod Locked
+mod Examples

@@ -1,7 +1,7 @@
 -- How far a function has been run in step.
 use Rattle.std.proofs.Common.{◌≡◌, ℕ, zero, suc, ◌+◌, ◌<◌, ◌⊎◌, inl, inr, Bool, true, false, List, [], ◌∷◌, ◌++◌, map, take, length, Option, Some, refl, ap, sym, ◌∙◌, subst, arith}
 use Rattle.std.proofs.lemmas.List.{take_all}
-use Rattle.std.proofs.lemmas.Option.{none-some, same_Some}
+use Rattle.std.proofs.lemmas.Option.{none-some, same_Some, slice_get_within}
 use Rattle.std.specs.Prelude.{IsSome, option_map, slice_get, unwrap_or, if◌then◌else◌}
 use Rattle.std.specs.List.{range_with_len}
 use Rattle.sh_base.specs.Shape.{cell_count}
@@ -20,17 +20,13 @@ use Rattle.sh_lockstep.specs.Rows.{AreGiven, IsLackingAt}
 use Rattle.sh_lockstep.specs.Tables.{with_row}
 use Rattle.sh_lockstep.specs.Behind.{AreAlike, IsBehind}
 use Rattle.sh_lockstep.proofs.Alike.{gives_alike, row_alike}
-use Rattle.sh_lockstep.proofs.Faults.{is_done_where, stops_at}
+use Rattle.sh_lockstep.proofs.Faults.{stops_at}
+use Rattle.sh_turns.proofs.InStep.{all_results, done_where_all_there}
 
 take_one : {X : Type 0} (xs : List X) (k : ℕ) (x : X) → slice_get xs k ≡ Some x → take (suc k) xs ≡ take k xs ++ x ∷ []
 take_one [] k x e = absurd (none-some x e)
 take_one (y ∷ xs) zero x e = ap (λ z. z ∷ []) (same_Some y x e)
 take_one (y ∷ xs) (suc k) x e = ap (λ ys. y ∷ ys) (take_one xs k x e)
-
-in_list : {X : Type 0} (xs : List X) (k : ℕ) (x : X) → slice_get xs k ≡ Some x → k < length xs
-in_list [] k x e = absurd (none-some x e)
-in_list (y ∷ xs) zero x e = omega arith
-in_list (y ∷ xs) (suc k) x e = let rest = in_list xs k x e in omega (arith, rest)
 
 -- the item at a place
 pub record Found {X : Type 0} (xs : List X) (k : ℕ) : Type 0 where
@@ -88,7 +84,7 @@ module _ (grid : List ℕ) (f : DeviceFunction Op) (arguments : ℕ → List Ten
       -- with the row of one more
       pub goes_on : IsBehind grid f arguments (suc k) s'
       goes_on = record {
-        within = let l = in_list f.instructions k op at in omega (arith, l);
+        within = let l = slice_get_within f.instructions k op at in omega (arith, l);
         alike = alike_next;
         there = λ i c other l e m. elim (below_or_at i k (omega (arith, l))) [
           | inl less ↦ behind.there i c other less e m
@@ -128,7 +124,7 @@ module _ (grid : List ℕ) (f : DeviceFunction Op) (arguments : ℕ → List Ten
         → lockstep program ≡ (if (steps_on grid).is_collective op then MismatchAt k c else StuckAt k c)
     unfolding steps_on
     lacks_at k c s op at behind lacking =
-        stops_at program k c (in_list f.instructions k op at) lacking.there
+        stops_at program k c (slice_get_within f.instructions k op at) lacking.there
         (value_at k c op at lacking.there ∙ sym (same_gives k s op at behind c lacking.there) ∙ lacking.lacks)
         (earlier_there k s behind)
         (λ d l. let m : d < cell_count grid = let t = lacking.there in omega (arith, l, t) in
@@ -138,8 +134,8 @@ module _ (grid : List ℕ) (f : DeviceFunction Op) (arguments : ℕ → List Ten
     module _ (s : State TensorValue) (behind : IsBehind grid f arguments (length f.instructions) s) where
       -- where none is lacking
       pub ends_done : lockstep program ≡ Done (map (results_of program) (range_with_len 0 (cell_count grid)))
-      unfolding steps_on
-      ends_done = is_done_where program (earlier_there (length f.instructions) s behind)
+      unfolding steps_on all_results
+      ends_done = done_where_all_there program (earlier_there (length f.instructions) s behind)
 
       pub ends_with : ResultsAreKnown (steps_on grid) f → (c : ℕ) → c < cell_count grid
           → all_there (map (s c) f.results) ≡ Some (results_of program c)

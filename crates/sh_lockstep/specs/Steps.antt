@@ -1,9 +1,9 @@
 -- Instructions that can be done on these values of all devices.
-use Rattle.std.specs.Prelude.{◌≡◌, ℕ, ◌<◌, true, false, List, map, slice_get, Option, IfSome, option_and_then}
+use Rattle.std.specs.Prelude.{◌≡◌, ℕ, ◌<◌, true, false, List, length, map, slice_get, Option, IfSome, option_and_then}
 use Rattle.std.specs.List.{All}
 use Rattle.sh_base.specs.Shape.{cell_count}
-use Rattle.sh_collectives.specs.Described.{CanCollect}
 use Rattle.sh_collectives.specs.Operands.{IsSmall}
+use Rattle.sh_collectives.specs.Ways.{dims_worked}
 use Rattle.sh_eval.specs.Evaluations.{CanEvaluate}
 use Rattle.sh_grid.specs.Grid.{group_of, place_in}
 use Rattle.sh_ir.specs.declared.operations.Op.{Op}
@@ -20,7 +20,8 @@ operand_on op named = option_and_then named (slice_get op.operands 0)
 
 -- the operands of a group, of which a collective can make the result at a place
 pub record AreCollectable (grid : List ℕ) (op : Op) (place : ℕ) (ts : List TensorValue) : Type 0 where
-  pub group : CanCollect op.kind grid (map (λ t. t.shape) ts) place
+  -- they have the dimensions along which it works
+  pub dims : All (λ a. All (λ s. a < length s) (map (λ t. t.shape) ts)) (dims_worked op.kind)
   pub widths : All (λ t. t.width ≡ width_of op.result) ts
   -- the result at the place is small
   pub small : IsSmall (option_and_then (λ ss. slice_get ss place)

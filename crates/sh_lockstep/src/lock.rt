@@ -8,7 +8,6 @@ ghost use Rattle.sh_lockstep.specs.Locks.{AreRows, IsColumn, IsStep, fault_on, o
 ghost use Rattle.sh_lockstep.specs.Steps.{CanStepOnAll};
 ghost use Rattle.sh_lockstep.specs.Tables.{values_in};
 ghost use Rattle.sh_pieces.specs.Runs.{argument_under};
-ghost use Rattle.sh_sem.specs.Returned.{returned as names_returned};
 ghost use Rattle.sh_sem.specs.Steps.{axes_of, device_function, device_program};
 ghost use Rattle.sh_turns.specs.Lockstep.{lockstep as in_step};
 ghost use Rattle.sh_turns.specs.Program.{all_there};
@@ -17,6 +16,7 @@ use crate::axes::group_axes;
 use crate::steps::{Row, is_collective, operands, row_of};
 use crate::table::Table;
 use sh_base::{Items, Mem};
+use sh_eval::returned;
 use sh_grid::{Grid, devices};
 use sh_ir::{Arg, Func, Op, OpClass};
 use sh_tensor::{Tensor, copy};
@@ -72,18 +72,6 @@ fn instructions<'f>(alloc: Global, ops: &'f [Op]) -> Result<Vec<&'f Op>, Mem>
         }
     }
     Ok(found)
-}
-
-/// The names that the return gives back.
-fn returned(ops: &[Op]) -> &[u32]
-    ensures { result.now ≡ names_returned ops.now }
-{
-    for op in ops {
-        if op.kind.class() == OpClass::Return {
-            return op.operands.as_slice();
-        }
-    }
-    &[]
 }
 
 /// How a function ends at an instruction that has no value on a device.

@@ -1,6 +1,6 @@
-use Rattle.std.proofs.Common.{◌≡◌, ℕ, List, map, Some, None, ap, sym, ◌∙◌, subst, Bor}
+use Rattle.std.proofs.Common.{◌≡◌, ℕ, List, length, map, Some, None, ap, sym, ◌∙◌, subst, Bor}
 use Rattle.std.specs.Prelude.{IfOk, Option, option_and_then, option_map}
-use Rattle.sh_grid.specs.Grid.{group_of, place_in}
+use Rattle.sh_grid.specs.Grid.{AreAxesOf, group_of, place_in}
 use Rattle.sh_sem.specs.Collected.{collected}
 use Rattle.sh_sem.specs.Steps.{axes_of}
 use Rattle.sh_tensor.specs.declared.tensors.Tensor.{Tensor}
@@ -8,7 +8,7 @@ use Rattle.sh_tensor.specs.Tensor.{TensorValue}
 use Rattle.sh_turns.specs.Program.{all_there}
 use Rattle.sh_lockstep.specs.Steps.{operand_on}
 use Rattle.sh_lockstep.specs.Tables.{values_in}
-use Rattle.sh_lockstep.proofs.Given.{collectable, gives_collective}
+use Rattle.sh_lockstep.proofs.Given.{collectable, collects, gives_collective}
 use Rattle.sh_lockstep.proofs.steps.collective_value.Goals as goal
 
 pub collect_at-requires : goal.collect_at-requires
@@ -17,11 +17,16 @@ collect_at-requires c =
     let there : all_there (map (λ m. operand_on c.args.op.now (values_in c.args.table.now m)) (group_of grid (axes_of c.args.op.now.kind) c.args.device)) ≡ Some (map (λ (t : Bor Tensor). t.now) c.in-Some.ts.items) =
     ap (λ (axes : List ℕ). all_there (map (λ m. operand_on c.args.op.now (values_in c.args.table.now m)) (group_of grid axes c.args.device))) (sym c.requires.own)
     ∙ sym c.in_ok-ts.ensures ∙ ap (option_map (λ ts. map (λ (t : Bor Tensor). t.now) ts.items)) c.in-Some.is in
-    let given =
-    collectable grid c.args.op.now (values_in c.args.table.now) c.args.device (map (λ (t : Bor Tensor). t.now) c.as_slice.result.now) c.place_in_group.result c.requires.can c.requires.collective
-    (there ∙ ap (λ (ts : List (Bor Tensor)). Some (map (λ (t : Bor Tensor). t.now) ts)) (sym c.as_slice.ensures.value))
-    (c.place_in_group.ensures.value ∙ ap (λ (axes : List ℕ). place_in grid axes c.args.device) c.requires.own) in
-    record { group = given.group; widths = given.widths; small = given.small }
+    let ts = map (λ (t : Bor Tensor). t.now) c.as_slice.result.now in
+    let passed = there ∙ ap (λ (ts : List (Bor Tensor)). Some (map (λ (t : Bor Tensor). t.now) ts)) (sym c.as_slice.ensures.value) in
+    let place = c.place_in_group.ensures.value ∙ ap (λ (axes : List ℕ). place_in grid axes c.args.device) c.requires.own in
+    let given = collectable grid c.args.op.now (values_in c.args.table.now) c.args.device ts c.place_in_group.result c.requires.can c.requires.collective passed place in
+    let axes = subst (AreAxesOf (length grid)) c.requires.own c.requires.axes in
+    record {
+      group = collects grid c.args.op.now (values_in c.args.table.now) c.args.device axes c.requires.device ts c.place_in_group.result passed place given;
+      widths = given.widths;
+      small = given.small;
+    }
 
 pub returns-in-Some : goal.returns-in-Some
 returns-in-Some c =

@@ -6,7 +6,8 @@ use Rattle.sh_lockstep.specs.Steps.{operand_on}
 use Rattle.sh_lockstep.specs.Tables.{values_in}
 use Rattle.sh_tensor.specs.declared.tensors.Tensor.{Tensor}
 use Rattle.sh_tensor.specs.Tensor.{TensorValue}
-use Rattle.sh_lockstep.proofs.GroupRows.{adds, ends, from_place, lacks, of_group, so_far}
+use Rattle.sh_collectives.proofs.PlaceRows.{adds, ends, from_place, lacks, so_far}
+use Rattle.sh_lockstep.proofs.GroupRows.{of_group}
 use Rattle.sh_lockstep.proofs.steps.group_operands.Goals as goal
 
 pub returns-in-None : goal.returns-in-None

@@ -2,7 +2,7 @@ use Rattle.std.proofs.Common.{◌≡◌, map}
 use Rattle.sh_grid.specs.Grid.{group_size_of, member_of}
 use Rattle.sh_lockstep.specs.Steps.{operand_on}
 use Rattle.sh_lockstep.specs.Tables.{values_in}
-use Rattle.sh_lockstep.proofs.GroupRows.{from_place, so_far}
+use Rattle.sh_collectives.proofs.PlaceRows.{from_place, so_far}
 use Rattle.sh_lockstep.proofs.steps.group_operands.Given as goal
 
 abbrev pub invariant-loop-place : goal.invariant-loop-place
