@@ -16,3 +16,8 @@ mod MovingLaws
 mod ValueLaws
 mod ResultLaws
 pub mod PlaceRows
+pub mod MemberLaws
+pub mod RuleLaws
+pub mod CapturedLaws
+pub mod VerifiedLaws
+pub mod InstructionLaws

@@ -2,3 +2,5 @@ pub mod Ways
 pub mod Sizes
 pub mod Described
 pub mod Operands
+pub mod VerifiedOps
+pub mod DeviceForms

@@ -15,6 +15,7 @@ mod results;
 mod shapes;
 mod shifts;
 mod sizes;
+mod verified;
 mod ways;
 
 pub use answers::shape_at;
@@ -22,3 +23,4 @@ pub use groups::collect;
 pub use laws::device_laws;
 pub use results::collect_at;
 pub use sizes::Shaped;
+pub use verified::device_form_laws;

@@ -1,9 +1,8 @@
 -- The rules that are asked of a module are all: the others ask nothing, so a function of a module that keeps the asked ones is of source.
-use Rattle.std.proofs.Common.{◌≡◌, ℕ, Bool, true, List, [], ◌∷◌, ◌++◌, Option, Some, None, refl, ap, ◌∙◌}
+use Rattle.std.proofs.Common.{◌≡◌, ℕ, Bool, true, List, [], ◌∷◌, ◌++◌, Option, Some, None, refl, ap}
 use Rattle.std.specs.Option.{option_map_or}
 use Rattle.std.specs.Prelude.{if◌then◌else◌, slice_get}
 use Rattle.sh_base.specs.declared.places.Place.{Place}
-use Rattle.sh_base.specs.declared.places.Refusal.{Refusal}
 use Rattle.sh_base.specs.declared.rules.Rule.{Rule}
 use Rattle.sh_base.specs.declared.rules.Rule.TheVariants.{B1, B2, B3, P1, P2, P3, L1, L2, L3, L4, L5, L6, L7, L8, L9, L10, V1, V2, V3, V4, V5, V6, V7, V8, V9, V10, V11, A1, A2, A3, A5, A6, A7, A8, A9, A10, C1, C2, C3, N1, N2, N3, N4, U1, U2, E1, E2, K1, K2, K3, K4}
 use Rattle.sh_ir.specs.declared.bodies.Body.{Body}

@@ -14,7 +14,7 @@ use Rattle.sh_ir.specs.declared.operations.OpKind.TheVariants.{Constant, Binary,
 use Rattle.sh_ir.specs.declared.types.Dim.{Dim}
 use Rattle.sh_ir.specs.declared.types.Dim.TheVariants.{Known, Differs}
 use Rattle.sh_ir.specs.declared.types.ValueType.{ValueType}
-use Rattle.sh_ir.specs.Agreement.{differs, dims_of, rank_of}
+use Rattle.sh_ir.specs.Agreement.{differs, dims_of, has_differing, rank_of}
 use Rattle.sh_ir.specs.Classes.{class_of}
 use Rattle.sh_ir.specs.Formed.{is_spelled_type}
 use Rattle.sh_ir.specs.Limits.{counted_cells_of, counted_dim, has_few_cells, has_few_dims}
@@ -26,19 +26,21 @@ use Rattle.sh_ir.specs.Scope.{Scope}
 use Rattle.sh_ir.specs.Typing.{operand_types, typing_of}
 use Rattle.sh_ir.specs.Written.{written_by}
 use Rattle.sh_loops.proofs.InsideLaws.{both_left, both_right, equal_by}
-use Rattle.sh_sem.specs.Given.{Giving, alone, giving, have_all_extents, of_dims, shape_given}
+use Rattle.sh_sem.specs.Given.{Giving, Seat, alone, giving, have_all_extents, of_dims, shape_given}
 use Rattle.sh_sem.specs.Types.{have_extents}
 use Rattle.sh_tensor.specs.Tensor.{TensorValue}
+use Rattle.sh_eval.specs.Sources.{AreOfValueTypes}
 use Rattle.sh_eval.specs.Evaluations.{CanEvaluate, FitsKind}
 use Rattle.sh_eval.specs.Values.{IsFew, shapes_of}
-use Rattle.sh_eval.specs.VerifiedOps.{HasTensor, IsOfVerifiedOp}
-use Rattle.sh_eval.proofs.CapturedLaws.{are_parted, captured_usable}
-use Rattle.sh_eval.proofs.KindFits.{binary_fits, cast_fits, collapse_fits, compare_fits, constant_fits, empty_fits, expand_fits, extract_fits, insert_fits, select_fits}
+use Rattle.sh_collectives.specs.VerifiedOps.{IsOfVerifiedOp}
+use Rattle.sh_eval.specs.VerifiedOps.{GivesTensor}
+use Rattle.sh_collectives.proofs.CapturedLaws.{are_parted, captured_usable}
+use Rattle.sh_eval.proofs.KindFits.{all_slice_fits, binary_fits, cast_fits, collapse_fits, compare_fits, constant_fits, empty_fits, expand_fits, extract_fits, insert_fits, join_fits, pad_fits, select_fits, take_fits}
 use Rattle.sh_eval.proofs.NamedFits.{batch_matmul_fits, broadcast_fits, conv_1d_fits, conv_2d_fits, dot_fits, fill_fits, matmul_fits, matvec_fits, transpose_fits, vecmat_fits}
 use Rattle.sh_eval.proofs.OperandLaws.{all_types}
 use Rattle.sh_eval.proofs.RegionNests.{IsRegionOf, generic_fits, reduce_fits}
-use Rattle.sh_eval.proofs.RuleFacts.{IsSoundResult, arity, counts_reduce, neither_right, passes_first, sound, sound_result, spelled_value, typing_values}
-use Rattle.sh_eval.proofs.TypeLaws.{AreOfValueTypes}
+use Rattle.sh_collectives.proofs.RuleLaws.{all_front, neither_right, sound}
+use Rattle.sh_eval.proofs.RuleFacts.{count_generic, count_reduce, counts_reduce, known_result, passes_first, sound_result, spelled_value, spelled_values, typing_values}
 
 abbrev pub op_by : OpKind → List ℕ → Option ℕ → ValueType → Place → Op
 op_by kind operands defines result place = record { kind = kind; operands = operands; defines = defines; result = result; place = place }
@@ -72,7 +74,7 @@ reduce_region : (scope : Scope) (x : declared_reduce.Reduce) (operands : List �
     → IsRegionOf scope.values x.body operands (operand_types x.ins_outs)
 reduce_region scope x operands defines result place v =
     let s = sound scope (op_by (Reduce x) operands defines result place) v in
-    let count = arity (Reduce x) operands result tt s.counts in
+    let count = count_reduce x operands result s.counts in
     let n = length (typing_of (Reduce x) result) in
     record {
       constants = v.constants;
@@ -89,7 +91,7 @@ generic_region : (scope : Scope) (x : declared_generic.Generic) (operands : List
     → IsRegionOf scope.values x.body operands (operand_types x.ins_outs)
 generic_region scope x operands defines result place v =
     let s = sound scope (op_by (Generic x) operands defines result place) v in
-    let count = arity (Generic x) operands result tt s.counts in
+    let count = count_generic x operands result s.counts in
     let n = length (typing_of (Generic x) result) in
     record {
       constants = v.constants;
@@ -101,11 +103,43 @@ generic_region scope x operands defines result place v =
       fits = region_of_generic scope x s.region;
     }
 
+-- ---- collectives are evaluated by their groups
+
+abbrev pub IsCollective : OpKind → Type 0
+IsCollective (AllGather x) = Unit {0}
+IsCollective (AllReduce x) = Unit {0}
+IsCollective (ReduceScatter x) = Unit {0}
+IsCollective (AllToAll x) = Unit {0}
+IsCollective (Shift x) = Unit {0}
+IsCollective (UpdateHalo x) = Unit {0}
+IsCollective _ = ⊥
+
+collective_fits : (kind : OpKind) (operands : List ℕ) (result : ValueType) (ts : List TensorValue) → IsCollective kind → FitsKind kind operands result ts
+unfolding FitsKind
+collective_fits (AllGather x) operands result ts is = tt
+collective_fits (AllReduce x) operands result ts is = tt
+collective_fits (ReduceScatter x) operands result ts is = tt
+collective_fits (AllToAll x) operands result ts is = tt
+collective_fits (Shift x) operands result ts is = tt
+collective_fits (UpdateHalo x) operands result ts is = tt
+collective_fits kind operands result ts is = absurd is
+
+pub collective_gives : (kind : OpKind) (operands : List ℕ) (result : ValueType) (seat : Seat) → IsCollective kind
+    → giving kind operands result seat ≡ None
+unfolding giving
+collective_gives (AllGather x) operands result seat is = refl
+collective_gives (AllReduce x) operands result seat is = refl
+collective_gives (ReduceScatter x) operands result seat is = refl
+collective_gives (AllToAll x) operands result seat is = refl
+collective_gives (Shift x) operands result seat is = refl
+collective_gives (UpdateHalo x) operands result seat is = refl
+collective_gives kind operands result seat is = absurd is
+
 -- ---- kind by kind
 
 fits_kind : (scope : Scope) (kind : OpKind) (operands : List ℕ) (defines : Option ℕ) (result : ValueType) (place : Place)
     (ts : List TensorValue) → IsOfVerifiedOp scope (op_by kind operands defines result place)
-    → HasTensor (class_of kind) → AreOfValueTypes (all_types scope (op_by kind operands defines result place)) ts
+    → GivesTensor (class_of kind) → AreOfValueTypes (all_types scope (op_by kind operands defines result place)) ts
     → FitsKind kind operands result ts
 fits_kind scope (Constant x) operands defines result place ts v has typed =
     constant_fits x operands result ts (both_left (is_held x) true v.held) v.result
@@ -206,16 +240,32 @@ fits_kind scope (Generic x) operands defines result place ts v has typed =
     (generic_region scope x operands defines result place v) typed values value s.loops s.maps s.counts s.results
 fits_kind scope (Sharding x) operands defines result place ts v has typed = absurd has
 fits_kind scope (Shard x) operands defines result place ts v has typed = absurd has
-fits_kind scope (AllGather x) operands defines result place ts v has typed = absurd has
-fits_kind scope (AllSlice x) operands defines result place ts v has typed = absurd has
-fits_kind scope (AllReduce x) operands defines result place ts v has typed = absurd has
-fits_kind scope (ReduceScatter x) operands defines result place ts v has typed = absurd has
-fits_kind scope (AllToAll x) operands defines result place ts v has typed = absurd has
-fits_kind scope (Shift x) operands defines result place ts v has typed = absurd has
-fits_kind scope (UpdateHalo x) operands defines result place ts v has typed = absurd has
-fits_kind scope (Take x) operands defines result place ts v has typed = absurd has
-fits_kind scope (Pad x) operands defines result place ts v has typed = absurd has
-fits_kind scope (Join x) operands defines result place ts v has typed = absurd has
+fits_kind scope (AllGather x) operands defines result place ts v has typed = collective_fits (AllGather x) operands result ts tt
+fits_kind scope (AllSlice x) operands defines result place ts v has typed =
+    let s = sound scope (op_by (AllSlice x) operands defines result place) v in
+    let value = spelled_value result (sound_result scope (op_by (AllSlice x) operands defines result place) v has).spelled in
+    all_slice_fits scope x operands result ts (plain (typing_of (AllSlice x) result) ts typed)
+    (spelled_value x.operand_type (passes_first is_spelled_type x.operand_type (result ∷ []) v.spelled)) value s.results
+fits_kind scope (AllReduce x) operands defines result place ts v has typed = collective_fits (AllReduce x) operands result ts tt
+fits_kind scope (ReduceScatter x) operands defines result place ts v has typed = collective_fits (ReduceScatter x) operands result ts tt
+fits_kind scope (AllToAll x) operands defines result place ts v has typed = collective_fits (AllToAll x) operands result ts tt
+fits_kind scope (Shift x) operands defines result place ts v has typed = collective_fits (Shift x) operands result ts tt
+fits_kind scope (UpdateHalo x) operands defines result place ts v has typed = collective_fits (UpdateHalo x) operands result ts tt
+fits_kind scope (Take x) operands defines result place ts v has typed =
+    let s = sound scope (op_by (Take x) operands defines result place) v in
+    let value = spelled_value result (sound_result scope (op_by (Take x) operands defines result place) v has).spelled in
+    take_fits scope x operands result ts (plain (typing_of (Take x) result) ts typed)
+    (spelled_value x.operand_type (passes_first is_spelled_type x.operand_type (result ∷ []) v.spelled)) value s.results
+fits_kind scope (Pad x) operands defines result place ts v has typed =
+    let s = sound scope (op_by (Pad x) operands defines result place) v in
+    let value = spelled_value result (sound_result scope (op_by (Pad x) operands defines result place) v has).spelled in
+    pad_fits scope x operands result ts (plain (typing_of (Pad x) result) ts typed)
+    (spelled_value x.operand_type (passes_first is_spelled_type x.operand_type (result ∷ []) v.spelled)) value s.results
+fits_kind scope (Join x) operands defines result place ts v has typed =
+    let s = sound scope (op_by (Join x) operands defines result place) v in
+    let value = spelled_value result (sound_result scope (op_by (Join x) operands defines result place) v has).spelled in
+    join_fits scope x operands result ts (plain (typing_of (Join x) result) ts typed)
+    (spelled_values x.operand_types (all_front is_spelled_type x.operand_types (result ∷ []) v.spelled)) value s.operands s.results
 fits_kind scope (Call x) operands defines result place ts v has typed = absurd has
 fits_kind scope (Return x) operands defines result place ts v has typed = absurd has
 
@@ -237,34 +287,38 @@ counted_shape : (shape : List ℕ) → map counted_dim (map (λ n. Known n) shap
 counted_shape [] = refl
 counted_shape (n ∷ shape) = let same : max 1 n ≡ max n 1 = omega arith in ap₂ ◌∷◌ same (counted_shape shape)
 
-few_shape : (result : ValueType) (shape : List ℕ) → IsSoundResult result → have_extents (dims_of result) shape ≡ true → IsFew shape
+-- a shape of a type that knows all extents, and has few cells
+pub few_by_type : (t : ValueType) (shape : List ℕ) → has_few_cells t ≡ true → map (λ n. Known n) shape ≡ dims_of t → IsFew shape
 unfolding has_few_cells
-few_shape result shape sound h =
-    let dims = extents_are (dims_of result) shape sound.known h in
-    let cells : counted_cells_of result ≤ max_cells = let small : nat_le (counted_cells_of result) max_cells ≡ true = sound.small in grind
+few_by_type t shape small dims =
+    let cells : counted_cells_of t ≤ max_cells = let few : nat_le (counted_cells_of t) max_cells ≡ true = small in grind
     (arith, nat_tests) in
-    let same : map counted_dim (dims_of result) ≡ map (λ n. max n 1) shape = ap (map counted_dim) (sym dims) ∙ counted_shape shape in
+    let same : map counted_dim (dims_of t) ≡ map (λ n. max n 1) shape = ap (map counted_dim) (sym dims) ∙ counted_shape shape in
     subst (λ ns. cell_count ns ≤ max_cells) same cells
 
-few_of : (result : ValueType) (o : Option (List ℕ)) → IsSoundResult result → IfSome (option_and_then (of_dims (dims_of result)) o) IsFew
-few_of result None sound = tt
-few_of result (Some shape) sound = go (have_extents (dims_of result) shape) (λ h. few_shape result shape sound h)
+few_of : (result : ValueType) (o : Option (List ℕ)) → has_differing result ≡ false → has_few_cells result ≡ true
+    → IfSome (option_and_then (of_dims (dims_of result)) o) IsFew
+few_of result None known small = tt
+few_of result (Some shape) known small =
+    go (have_extents (dims_of result) shape) (λ h. few_by_type result shape small (extents_are (dims_of result) shape known h))
   where
     go : (b : Bool) → (b ≡ true → IsFew shape) → IfSome (if b then Some shape else None) IsFew
     go true few = few refl
     go false few = tt
 
-few_given : (op : Op) (ts : List TensorValue) → IsSoundResult op.result → IfSome (shape_given op alone (shapes_of ts)) IsFew
+-- in source form what is given has few cells
+pub few_given : (op : Op) (seat : Seat) (ts : List TensorValue) → has_differing op.result ≡ false → has_few_cells op.result ≡ true
+    → IfSome (shape_given op seat (shapes_of ts)) IsFew
 unfolding shape_given
-few_given op ts sound = go (have_all_extents (typing_of op.kind op.result) (shapes_of ts))
+few_given op seat ts known small = go (have_all_extents (typing_of op.kind op.result) (shapes_of ts))
   where
     few : IfSome (option_and_then (of_dims (dims_of op.result))
-        (option_and_then (λ (x : Giving). x.shape (shapes_of ts)) (giving op.kind op.operands op.result alone))) IsFew
-    few = few_of op.result (option_and_then (λ (x : Giving). x.shape (shapes_of ts)) (giving op.kind op.operands op.result alone)) sound
+        (option_and_then (λ (x : Giving). x.shape (shapes_of ts)) (giving op.kind op.operands op.result seat))) IsFew
+    few = few_of op.result (option_and_then (λ (x : Giving). x.shape (shapes_of ts)) (giving op.kind op.operands op.result seat)) known small
 
     go : (b : Bool)
         → IfSome (if b then option_and_then (of_dims (dims_of op.result))
-        (option_and_then (λ (x : Giving). x.shape (shapes_of ts)) (giving op.kind op.operands op.result alone)) else None) IsFew
+        (option_and_then (λ (x : Giving). x.shape (shapes_of ts)) (giving op.kind op.operands op.result seat)) else None) IsFew
     go true = few
     go false = tt
 
@@ -274,12 +328,19 @@ few_dims t h = let short : nat_le (rank_of t) max_rank ≡ true = h in grind (ar
 
 -- ---- an operation can be evaluated
 
-pub can_evaluate : (scope : Scope) (op : Op) (ts : List TensorValue) → IsOfVerifiedOp scope op → HasTensor (class_of op.kind)
-    → AreOfValueTypes (all_types scope op) ts → CanEvaluate op alone ts
-can_evaluate scope op ts v has typed =
-    let r = sound_result scope op v has in
+-- on a device, where what it gives has few cells
+pub can_evaluate : (scope : Scope) (op : Op) (seat : Seat) (ts : List TensorValue) → IsOfVerifiedOp scope op → GivesTensor (class_of op.kind)
+    → AreOfValueTypes (all_types scope op) ts → IfSome (shape_given op seat (shapes_of ts)) IsFew → CanEvaluate op seat ts
+can_evaluate scope op seat ts v has typed few =
     record {
       fits = fits_kind scope op.kind op.operands op.defines op.result op.place ts v has typed;
-      rank = few_dims op.result r.short;
-      few = few_given op ts r;
+      rank = few_dims op.result (sound_result scope op v has).short;
+      few = few;
     }
+
+-- in source form
+pub can_evaluate_alone : (scope : Scope) (op : Op) (ts : List TensorValue) → scope.device ≡ None → IsOfVerifiedOp scope op
+    → GivesTensor (class_of op.kind) → AreOfValueTypes (all_types scope op) ts → CanEvaluate op alone ts
+can_evaluate_alone scope op ts none v has typed =
+    can_evaluate scope op alone ts v has typed
+    (few_given op alone ts (known_result scope op none v has) (sound_result scope op v has).small)

@@ -1,8 +1,7 @@
 -- What an operation gives, apart: whether the operands have the extents that are written for them,
 -- and the value by its kind.
-use Rattle.std.proofs.Common.{◌≡◌, ℕ, Bool, true, false, List, [], ◌∷◌, map, length, Option, Some, None, refl, ap, ap₂, sym, ◌∙◌, subst}
+use Rattle.std.proofs.Common.{◌≡◌, ℕ, Bool, true, false, List, [], ◌∷◌, length, Option, Some, None, refl, ap, ap₂, sym, ◌∙◌, subst}
 use Rattle.std.specs.Prelude.{IfSome, option_map, option_and_then, if◌then◌else◌}
-use Rattle.std.proofs.lemmas.Option.{none-some, same_Some}
 use Rattle.sh_base.specs.declared.numbers.Cell.{Cell}
 use Rattle.sh_base.specs.declared.numbers.Width.{Width}
 use Rattle.sh_base.specs.Shape.{cell_count, unflat_of}

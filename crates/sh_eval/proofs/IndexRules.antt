@@ -1,5 +1,5 @@
 -- Indices of joined tensors, and of tensors whose operands are read.
-use Rattle.std.proofs.Common.{◌≡◌, ℕ, zero, suc, ◌+◌, ◌-◌, ◌<◌, ◌≤◌, true, false, List, [], ◌∷◌, map, length, get_or, drop, set, min, Some, refl, ap, sym, ◌∙◌, arith, subst, add-one}
+use Rattle.std.proofs.Common.{◌≡◌, ℕ, zero, suc, ◌+◌, ◌-◌, ◌<◌, ◌≤◌, true, false, List, [], ◌∷◌, length, get_or, drop, set, min, refl, ap, sym, ◌∙◌, arith, add-one}
 use Rattle.std.specs.Prelude.{nat_lt, zip, ℤ, if◌then◌else◌}
 use Rattle.std.proofs.lemmas.Bool.Decides.{nat_tests}
 use Rattle.std.proofs.lemmas.List.{set-set}
@@ -11,7 +11,7 @@ use Rattle.sh_tensor.specs.Tensor.{TensorValue, at, extent, joined_at}
 use Rattle.sh_eval.specs.declared.slices.SliceRange.{SliceRange}
 use Rattle.sh_eval.specs.Slices.{ranges_in}
 use Rattle.sh_sem.specs.Pieces.{is_own, padded_shape, without_padding}
-use Rattle.sh_sem.specs.Slices.{Range, index_in, ranges_by, sliced_index}
+use Rattle.sh_sem.specs.Slices.{Range, ranges_by}
 
 -- the coordinate that is less stands there too
 pub kept_place : (i : List ℕ) (axis p q : ℕ) → get_or (set i axis p) axis 0 ≡ p → q ≤ p → get_or (set i axis q) axis 0 ≡ q

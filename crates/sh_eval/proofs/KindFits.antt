@@ -1,5 +1,6 @@
 -- Creators, element operations, slices and reshapes of verified functions have operands of the widths at which they work.
 use Rattle.std.proofs.Common.{◌≡◌, ℕ, zero, suc, ◌<◌, true, List, [], ◌∷◌, length, get_or, refl, ap, sym, ◌∙◌, arith, subst}
+use Rattle.std.proofs.lemmas.Bool.Decides.{nat_tests}
 use Rattle.std.specs.List.{All, AllByRecursion, list_all}
 use Rattle.std.specs.Prelude.{◌^◌, nat_eq}
 use Rattle.sh_base.specs.Cells.{IsCellOf, bits_of}
@@ -17,27 +18,31 @@ use Rattle.sh_ir.specs.declared.arith_ops.Constant as declared_constant
 use Rattle.sh_ir.specs.declared.arith_ops.Contents.{Contents}
 use Rattle.sh_ir.specs.declared.arith_ops.Contents.TheVariants.{Held, Broken}
 use Rattle.sh_ir.specs.declared.arith_ops.Select as declared_select
-use Rattle.sh_ir.specs.declared.operations.OpKind.TheVariants.{Constant, Binary, Compare, Select, Cast, Empty, ExtractSlice, InsertSlice, CollapseShape, ExpandShape}
+use Rattle.sh_ir.specs.declared.operations.OpKind.TheVariants.{Constant, Binary, Compare, Select, Cast, Empty, ExtractSlice, InsertSlice, CollapseShape, ExpandShape, AllSlice, Take, Pad, Join}
+use Rattle.sh_ir.specs.declared.shard_ops.AllSlice as declared_all_slice
+use Rattle.sh_ir.specs.declared.shard_ops.Join as declared_join
+use Rattle.sh_ir.specs.declared.shard_ops.Pad as declared_pad
+use Rattle.sh_ir.specs.declared.shard_ops.Take as declared_take
 use Rattle.sh_ir.specs.declared.tensor_ops.CollapseShape as declared_collapse_shape
 use Rattle.sh_ir.specs.declared.tensor_ops.ExpandShape as declared_expand_shape
 use Rattle.sh_ir.specs.declared.tensor_ops.ExtractSlice as declared_extract_slice
 use Rattle.sh_ir.specs.declared.tensor_ops.InsertSlice as declared_insert_slice
 use Rattle.sh_ir.specs.declared.types.ValueType.{ValueType}
 use Rattle.sh_ir.specs.declared.types.ValueType.TheVariants as value_type
-use Rattle.sh_ir.specs.Agreement.{cell_bits, same_bits}
+use Rattle.sh_ir.specs.Agreement.{cell_bits, same_bits, same_rank_and_bits}
 use Rattle.sh_ir.specs.Literals.{are_held, fills, is_held, is_literal_cell}
-use Rattle.sh_ir.specs.Operands.{is_part_of, operands_fit}
+use Rattle.sh_ir.specs.Operands.{can_join, is_part_of, operands_fit}
 use Rattle.sh_ir.specs.Results.{changes_bits, is_cast, is_slice, result_fits}
 use Rattle.sh_ir.specs.Scope.{Scope}
 use Rattle.sh_ir.specs.Typing.{typing_of}
-use Rattle.sh_ir.specs.Written.{test_type}
+use Rattle.sh_ir.specs.Written.{first_type, test_type}
 use Rattle.sh_loops.proofs.InsideLaws.{below_by, both_left, both_right}
 use Rattle.sh_loops.specs.Cells.{HoldsCellsOf}
 use Rattle.sh_sem.specs.Scalars.{width_of}
 use Rattle.sh_tensor.specs.Tensor.{TensorValue}
 use Rattle.sh_eval.specs.Evaluations.{FitsKind, HaveWidth}
-use Rattle.sh_eval.specs.Sources.{has_value}
-use Rattle.sh_eval.proofs.TypeLaws.{AreOfValueTypes, bits_are, typed_width, typed_widths, width_by_bits}
+use Rattle.sh_eval.specs.Sources.{AreOfValueTypes, has_value}
+use Rattle.sh_eval.proofs.TypeLaws.{bits_are, typed_width, typed_widths, width_by_bits}
 
 -- ---- widths
 
@@ -171,3 +176,53 @@ pub expand_fits : (scope : Scope) (x : declared_expand_shape.ExpandShape) (opera
     → FitsKind (ExpandShape x) operands result ts
 unfolding FitsKind result_fits typing_of
 expand_fits scope x operands result ts typed from to fits = one_source x.source_type result ts typed from to (both_left _ _ fits)
+
+-- ---- layouts of devices
+
+pub all_slice_fits : (scope : Scope) (x : declared_all_slice.AllSlice) (operands : List ℕ) (result : ValueType) (ts : List TensorValue)
+    → AreOfValueTypes (typing_of (AllSlice x) result) ts
+    → has_value x.operand_type ≡ true → has_value result ≡ true → result_fits scope (AllSlice x) result ≡ true
+    → FitsKind (AllSlice x) operands result ts
+unfolding FitsKind result_fits typing_of
+all_slice_fits scope x operands result ts typed from to fits =
+    one_source x.operand_type result ts typed from to (both_left _ _ (both_left _ _ fits))
+
+pub take_fits : (scope : Scope) (x : declared_take.Take) (operands : List ℕ) (result : ValueType) (ts : List TensorValue)
+    → AreOfValueTypes (typing_of (Take x) result) ts
+    → has_value x.operand_type ≡ true → has_value result ≡ true → result_fits scope (Take x) result ≡ true
+    → FitsKind (Take x) operands result ts
+unfolding FitsKind result_fits typing_of
+take_fits scope x operands result ts typed from to fits = one_source x.operand_type result ts typed from to (both_left _ _ (both_left _ _ fits))
+
+pub pad_fits : (scope : Scope) (x : declared_pad.Pad) (operands : List ℕ) (result : ValueType) (ts : List TensorValue)
+    → AreOfValueTypes (typing_of (Pad x) result) ts
+    → has_value x.operand_type ≡ true → has_value result ≡ true → result_fits scope (Pad x) result ≡ true
+    → FitsKind (Pad x) operands result ts
+unfolding FitsKind result_fits typing_of
+pad_fits scope x operands result ts typed from to fits = one_source x.operand_type result ts typed from to (both_left _ _ (both_left _ _ fits))
+
+-- types of the width of the first have that of the result
+widths_by_first : (first result : ValueType) (types : List ValueType) → list_all has_value types ≡ true → has_value result ≡ true
+    → list_all (same_rank_and_bits first) types ≡ true → same_bits first result ≡ true
+    → AllByRecursion (λ t. width_of t ≡ width_of result) types
+widths_by_first first result [] values value all one = tt
+widths_by_first first result (t ∷ types) values value all one =
+    let here = both_left _ _ (both_left (same_rank_and_bits first t) (list_all (same_rank_and_bits first) types) all) in
+    let same : same_bits t result ≡ true = bits_by_first (cell_bits first) (cell_bits t) (cell_bits result) here one in
+    (
+      width_by_bits t result (both_left (has_value t) (list_all has_value types) values) value same,
+      widths_by_first first result types (both_right (has_value t) (list_all has_value types) values) value
+          (both_right (same_rank_and_bits first t) (list_all (same_rank_and_bits first) types) all) one,
+    )
+  where
+    bits_by_first : (a b c : ℕ) → nat_eq a b ≡ true → nat_eq a c ≡ true → nat_eq b c ≡ true
+    bits_by_first a b c h k = grind (arith, nat_tests)
+
+pub join_fits : (scope : Scope) (x : declared_join.Join) (operands : List ℕ) (result : ValueType) (ts : List TensorValue)
+    → AreOfValueTypes (typing_of (Join x) result) ts
+    → list_all has_value x.operand_types ≡ true → has_value result ≡ true → operands_fit scope (Join x) result ≡ true
+    → result_fits scope (Join x) result ≡ true → FitsKind (Join x) operands result ts
+unfolding FitsKind operands_fit result_fits typing_of can_join
+join_fits scope x operands result ts typed values value fits gives =
+    all_of_width (width_of result) x.operand_types ts typed
+    (widths_by_first (first_type x.operand_types) result x.operand_types values value (both_left _ _ fits) (both_left _ _ (both_left _ _ gives)))

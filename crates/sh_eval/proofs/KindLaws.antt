@@ -1,6 +1,6 @@
 -- Kind by kind: the shape that a slice, a reshape, a piece, a padding or a join gives, and its cells
 -- by the rule in memory.
-use Rattle.std.proofs.Common.{◌≡◌, ◌≢◌, ℕ, ◌+◌, Bool, true, false, List, [], ◌∷◌, map, length, get_or, set, Option, Some, None, refl, ap, ap₂, sym, ◌∙◌, arith}
+use Rattle.std.proofs.Common.{◌≡◌, ◌≢◌, ℕ, Bool, List, [], ◌∷◌, length, get_or, set, Option, Some, None, refl, ap, ap₂, sym, ◌∙◌}
 use Rattle.std.specs.Prelude.{◌&&◌, nat_eq, option_map, if◌then◌else◌}
 use Rattle.std.specs.List.{list_all}
 use Rattle.std.specs.Cmp.Lexicographic.{pointwise}
@@ -14,7 +14,6 @@ use Rattle.sh_ir.specs.declared.tensor_ops.ExtractSlice as declared_extract_slic
 use Rattle.sh_ir.specs.declared.tensor_ops.InsertSlice as declared_insert_slice
 use Rattle.sh_ir.specs.declared.types.Dim.{Dim}
 use Rattle.sh_tensor.specs.Tensor.{TensorValue}
-use Rattle.sh_eval.specs.declared.rules.CellRule as memory
 use Rattle.sh_eval.specs.declared.rules.CellRule.TheVariants.{Sliced, Inserted, Reshaped, Moved, Padded, Joined}
 use Rattle.sh_eval.specs.declared.slices.SliceRange.{SliceRange}
 use Rattle.sh_eval.specs.Rules.{rule_cell}

@@ -1,12 +1,8 @@
 -- Slices, reshapes, pieces, paddings and joins: the shape that an operation gives and the rule of its
 -- cells make the value that is defined.
-use Rattle.std.proofs.Common.{◌≡◌, ◌≢◌, ℕ, zero, suc, ◌+◌, ◌*◌, ◌<◌, ◌≤◌, Bool, true, false, List, [], ◌∷◌, map, length, get_or, drop, set, Option, Some, None, refl, ap, ap₂, sym, ◌∙◌, arith, subst, inl, inr}
-use Rattle.std.specs.Prelude.{◌^◌, ◌&&◌, All, IfSome, IsTrue, max, nat_eq, option_map, option_and_then, if◌then◌else◌}
-use Rattle.std.specs.List.{AllByRecursion, list_all}
-use Rattle.std.specs.Cmp.Lexicographic.{pointwise}
-use Rattle.std.proofs.lemmas.Bool.{cases_Bool}
+use Rattle.std.proofs.Common.{◌≡◌, ◌≢◌, ℕ, zero, suc, ◌*◌, ◌<◌, ◌≤◌, Bool, true, false, List, [], ◌∷◌, map, length, get_or, Option, Some, None, refl, ap, ap₂, sym, ◌∙◌, arith, subst}
+use Rattle.std.specs.Prelude.{◌^◌, All, IfSome, IsTrue, max, option_map, option_and_then, if◌then◌else◌}
 use Rattle.std.proofs.lemmas.Nat.{mul-le}
-use Rattle.std.proofs.lemmas.Option.{none-some, same_Some}
 use Rattle.std.proofs.Math.Nat.{le-mul_of_pos_right}
 use Rattle.sh_base.specs.Shape.{cell_count, max_cells, unflat_of}
 use Rattle.sh_base.specs.declared.numbers.Cell.{Cell}
@@ -14,7 +10,7 @@ use Rattle.sh_base.specs.declared.numbers.Width.{Width}
 use Rattle.sh_ir.specs.declared.types.Dim.{Dim}
 use Rattle.sh_tensor.specs.Tensor.{TensorValue}
 use Rattle.sh_eval.specs.Cuts.{cut_extent, cut_shape}
-use Rattle.sh_eval.specs.Values.{GivesFew, IsFew, known_shape_by, known_value, shapes_of}
+use Rattle.sh_eval.specs.Values.{GivesFew, IsFew, known_value, shapes_of}
 use Rattle.sh_loops.specs.Cells.{cells_by, tensor_of}
 use Rattle.sh_loops.proofs.CellLaws.{built_by, cells_by-same}
 use Rattle.sh_sem.specs.Given.{Giving, built_of, of_dims, of_none, of_one, of_two}
@@ -30,14 +26,14 @@ few_some (n ∷ s) =
     let both : 1 * 1 ≤ max n 1 * cell_count (map (λ n. max n 1) s) = mul-le 1 1 (max n 1) (cell_count (map (λ n. max n 1) s)) one (omega (arith, rest)) in
     omega (arith, both)
 
-few_rest : (n : ℕ) (s : List ℕ) → IsFew (n ∷ s) → IsFew s
+pub few_rest : (n : ℕ) (s : List ℕ) → IsFew (n ∷ s) → IsFew s
 few_rest n s few =
     let c = cell_count (map (λ n. max n 1) s) in
     let one : 1 ≤ max n 1 = omega arith in
     let more : 1 * c ≤ max n 1 * c = mul-le 1 c (max n 1) c one (omega arith) in
     omega (arith, more, few)
 
-few_first : (n : ℕ) (s : List ℕ) → IsFew (n ∷ s) → n ≤ max_cells
+pub few_first : (n : ℕ) (s : List ℕ) → IsFew (n ∷ s) → n ≤ max_cells
 few_first n s few =
     let c = cell_count (map (λ n. max n 1) s) in
     let some = few_some s in

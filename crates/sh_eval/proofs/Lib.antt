@@ -10,9 +10,8 @@ pub mod SizeRules
 pub mod WorkLaws
 pub mod OutcomeLaws
 pub mod TypeLaws
-pub mod MemberLaws
 pub mod RuleFacts
-pub mod CapturedLaws
+pub mod CapturedTypes
 pub mod OperandLaws
 pub mod SourceOps
 pub mod KindFits

@@ -30,11 +30,12 @@ use Rattle.sh_loops.proofs.InsideLaws.{below_by, both_left, both_right}
 use Rattle.sh_sem.specs.Scalars.{width_of}
 use Rattle.sh_tensor.specs.Tensor.{TensorValue}
 use Rattle.sh_eval.specs.Evaluations.{FitsKind}
-use Rattle.sh_eval.specs.Sources.{has_value}
-use Rattle.sh_eval.proofs.CapturedLaws.{all_filtered}
+use Rattle.sh_eval.specs.Sources.{AreOfValueTypes, has_value}
+use Rattle.sh_collectives.proofs.CapturedLaws.{all_filtered}
 use Rattle.sh_eval.proofs.NestFits.{can_nest, output_width, single_follows, widths_alike, widths_not_more}
-use Rattle.sh_eval.proofs.RuleFacts.{OneOutput, all_back, all_front, is_not, neither_left, neither_right, one_output}
-use Rattle.sh_eval.proofs.TypeLaws.{AreOfValueTypes, equal_numbers}
+use Rattle.sh_collectives.proofs.RuleLaws.{all_back, all_front, is_not, neither_left, neither_right}
+use Rattle.sh_eval.proofs.RuleFacts.{OneOutput, one_output}
+use Rattle.sh_eval.proofs.TypeLaws.{equal_numbers}
 
 -- ---- values of the operands' types
 

@@ -19,8 +19,8 @@ use Rattle.sh_sem.specs.Given.{outs_of}
 use Rattle.sh_sem.specs.Nest.{maps_of}
 use Rattle.sh_sem.specs.Scalars.{width_of}
 use Rattle.sh_tensor.specs.Tensor.{TensorValue}
-use Rattle.sh_eval.specs.Sources.{has_value}
-use Rattle.sh_eval.proofs.TypeLaws.{AreOfValueTypes, bits_are, typed_width, typed_widths, width_by_bits}
+use Rattle.sh_eval.specs.Sources.{AreOfValueTypes, has_value}
+use Rattle.sh_eval.proofs.TypeLaws.{bits_are, typed_width, typed_widths, width_by_bits}
 
 -- ---- the widths of inputs, output and scalars
 

@@ -5,6 +5,8 @@ use Rattle.std.specs.List.{list_all}
 use Rattle.std.specs.Prelude.{◌⊎◌, IfSome, IsSome, if◌then◌else◌, option_and_then, slice_get}
 use Rattle.sh_base.specs.Shape.{max_rank}
 use Rattle.sh_ir.specs.declared.calls.Call as declared_call
+use Rattle.sh_ir.specs.declared.classification.OpClass.{OpClass}
+use Rattle.sh_ir.specs.declared.classification.OpClass.TheVariants as class
 use Rattle.sh_ir.specs.declared.functions.Func.{Func}
 use Rattle.sh_ir.specs.declared.operations.Op.{Op}
 use Rattle.sh_ir.specs.declared.operations.OpKind.{OpKind}
@@ -24,35 +26,45 @@ use Rattle.sh_ir.specs.Written.{written_by}
 use Rattle.sh_ir.proofs.KeptLaws.{scope_behind}
 use Rattle.sh_sem.specs.Given.{Giving, alone, given, giving, have_all_extents, of_dims, shape_by, shape_given}
 use Rattle.sh_sem.specs.Meaning.{Values, after_class}
+use Rattle.sh_sem.specs.Types.{AreOfTypes}
 use Rattle.sh_tensor.specs.Tensor.{TensorValue}
 use Rattle.sh_turns.specs.Program.{all_there}
 use Rattle.sh_eval.specs.Evaluations.{CanEvaluate, FitsKind}
 use Rattle.sh_eval.specs.Reached.{IsReachedOp, values_at_start, values_behind}
-use Rattle.sh_eval.specs.Sources.{HaveTypes, IsOfValueType}
+use Rattle.sh_eval.specs.Sources.{AreOfValueTypes, HaveTypes, IsOfSource, IsOfSourceType}
 use Rattle.sh_eval.specs.Values.{IsFew, shapes_of}
-use Rattle.sh_eval.specs.VerifiedOps.{HasTensor, IsOfVerifiedOp}
-use Rattle.sh_eval.proofs.Evaluable.{can_evaluate, few_dims}
+use Rattle.sh_collectives.specs.VerifiedOps.{IsOfVerifiedOp}
+use Rattle.sh_eval.specs.VerifiedOps.{GivesTensor, HasTensor}
+use Rattle.sh_eval.proofs.Evaluable.{can_evaluate_alone, few_dims}
 use Rattle.sh_eval.proofs.OperandLaws.{all_types, operands_there}
-use Rattle.sh_eval.proofs.ResultTypes.{result_typed}
-use Rattle.sh_eval.proofs.RuleFacts.{passes_first, passes_last, sound}
-use Rattle.sh_eval.proofs.SourceOps.{source_op}
-use Rattle.sh_eval.proofs.TypeLaws.{AreOfValueTypes}
-use Rattle.sh_eval.proofs.TypingLaws.{args_typed, call_gives, none_given, typed_after}
+use Rattle.sh_eval.proofs.ResultTypes.{result_typed_alone, source_type}
+use Rattle.sh_collectives.proofs.RuleLaws.{sound}
+use Rattle.sh_eval.proofs.RuleFacts.{known_result, passes_first, passes_last, source_op}
+use Rattle.sh_collectives.proofs.VerifiedLaws.{device_behind, small_args}
+use Rattle.sh_eval.proofs.SourceOps.{op_there, source_scope, verified_func}
+use Rattle.sh_eval.proofs.TypingLaws.{args_typed, call_gives, none_given, typed_after, values_of_types}
 
 -- ---- the values before an operation are of their types
+
+-- arguments of the parameters' types are so in the scope at the start
+pub source_args : (f : Func) (arguments : List TensorValue) (h : IsOfSource f) → AreOfTypes (map (λ a. a.value_type) f.args) arguments
+    → HaveTypes (scope_of h.whole f).values (values_at_start f arguments)
+source_args f arguments h are =
+    args_typed h.whole f arguments
+    (values_of_types (map (λ a. a.value_type) f.args) arguments (small_args f (verified_func f h)) are)
 
 -- each operation of the list is verified where it stands
 abbrev pub AreVerified : Scope → List Op → Type 0
 AreVerified scope ops = (j : ℕ) (op : Op) → slice_get ops j ≡ Some op → IsOfVerifiedOp (scope_behind scope (take j ops)) op
 
-pub types_behind : (scope : Scope) (ops : List Op) (k : ℕ) (values after : Values) → AreVerified scope ops → HaveTypes scope.values values
+pub types_behind : (scope : Scope) (ops : List Op) (k : ℕ) (values after : Values) → scope.device ≡ None → AreVerified scope ops → HaveTypes scope.values values
     → values_behind k ops values ≡ Some after → HaveTypes (scope_behind scope (take k ops)).values after
-types_behind scope ops zero values after verified have h = subst (HaveTypes scope.values) (same_Some values after h) have
-types_behind scope [] (suc k) values after verified have h = absurd (none-some after h)
-types_behind scope (op ∷ ops) (suc k) values after verified have h =
+types_behind scope ops zero values after none verified have h = subst (HaveTypes scope.values) (same_Some values after h) have
+types_behind scope [] (suc k) values after none verified have h = absurd (none-some after h)
+types_behind scope (op ∷ ops) (suc k) values after none verified have h =
     go (after_class (class_of op.kind) op values)
-    (λ next e rest. types_behind (scope_after scope op) ops k next after (λ j other is. verified (suc j) other is)
-    (typed_after scope op values next (verified 0 op refl) have e) rest) h
+    (λ next e rest. types_behind (scope_after scope op) ops k next after none (λ j other is. verified (suc j) other is)
+    (typed_after scope op values next none (verified 0 op refl) have e) rest) h
   where
     go : (o : Option Values)
         → ((next : Values) → o ≡ Some next → values_behind k ops next ≡ Some after
@@ -62,27 +74,44 @@ types_behind scope (op ∷ ops) (suc k) values after verified have h =
     go None rest f = absurd (none-some after f)
     go (Some next) rest f = rest next refl f
 
+pub on_devices : (c : OpClass) → HasTensor c → GivesTensor c
+on_devices class.Creator h = tt
+on_devices class.Element h = tt
+on_devices class.Layout h = tt
+on_devices class.Structured h = tt
+on_devices class.Convolution h = tt
+on_devices class.Sharding h = absurd h
+on_devices class.Note h = absurd h
+on_devices class.DeviceLayout h = absurd h
+on_devices class.Collective h = absurd h
+on_devices class.Call h = absurd h
+on_devices class.Return h = absurd h
+
 -- what is known where an operation is reached
 record IsTyped (op : Op) (values : Values) : Type 0 where
   scope : Scope
+  source : scope.device ≡ None
   verified : IsOfVerifiedOp scope op
   have : HaveTypes scope.values values
 
 typed_there : (f : Func) (arguments : List TensorValue) (op : Op) (values : Values) → IsReachedOp f arguments op values → IsTyped op values
 typed_there f arguments op values r =
-    let m = r.verified.whole in record {
+    let m = r.verified.whole in
+    let none = source_scope f r.verified in
+    record {
       scope = scope_behind (scope_of m f) (take r.place f.ops);
-      verified = source_op f r.verified r.place op r.stands;
+      source = device_behind (scope_of m f) (take r.place f.ops) ∙ none;
+      verified = op_there f r.verified r.place op r.stands;
       have =
-          types_behind (scope_of m f) f.ops r.place (values_at_start f arguments) values (λ j other e. source_op f r.verified j other e)
-          (args_typed m f arguments r.typed) r.before;
+          types_behind (scope_of m f) f.ops r.place (values_at_start f arguments) values none (λ j other e. op_there f r.verified j other e)
+          (source_args f arguments r.verified r.typed) r.before;
     }
 
 pub there_where_reached : (f : Func) (arguments : List TensorValue) (op : Op) (values : Values) → IsReachedOp f arguments op values
     → HasTensor (class_of op.kind) → IsSome (all_there (map values op.operands))
 there_where_reached f arguments op values r has =
     let t = typed_there f arguments op values r in
-    let found = operands_there t.scope op values t.verified has t.have in
+    let found = operands_there t.scope op values t.verified (on_devices (class_of op.kind) has) t.have in
     subst (λ (o : Option (List TensorValue)). IsSome o) (sym found.there) refl
 
 -- ---- operations of source form that give no tensor of their operands
@@ -199,7 +228,7 @@ no_shape op ts none =
 found_types : (op : Op) (values : Values) (ts : List TensorValue) (t : IsTyped op values) → HasTensor (class_of op.kind)
     → all_there (map values op.operands) ≡ Some ts → AreOfValueTypes (all_types t.scope op) ts
 found_types op values ts t has h =
-    let found = operands_there t.scope op values t.verified has t.have in
+    let found = operands_there t.scope op values t.verified (on_devices (class_of op.kind) has) t.have in
     subst (AreOfValueTypes (all_types t.scope op)) (same_Some found.ts ts (sym found.there ∙ h)) found.typed
 
 pub can_where_reached : (f : Func) (arguments : List TensorValue) (op : Op) (values : Values) (ts : List TensorValue)
@@ -207,8 +236,8 @@ pub can_where_reached : (f : Func) (arguments : List TensorValue) (op : Op) (val
 can_where_reached f arguments op values ts r h =
     let t = typed_there f arguments op values r in
     let s = sound t.scope op t.verified in
-    elim (tensor_or_none op.kind s.source) [
-      | inl has ↦ can_evaluate t.scope op ts t.verified has (found_types op values ts t has h)
+    elim (tensor_or_none op.kind (source_op t.scope op t.source t.verified).source) [
+      | inl has ↦ can_evaluate_alone t.scope op ts t.source t.verified (on_devices (class_of op.kind) has) (found_types op values ts t has h)
       | inr n ↦
           record {
             fits = n.fits op.operands op.result ts;
@@ -220,11 +249,12 @@ can_where_reached f arguments op values ts r h =
 
 pub typed_where_reached : (f : Func) (arguments : List TensorValue) (op : Op) (values : Values) (ts : List TensorValue) (t : TensorValue)
     → IsReachedOp f arguments op values → all_there (map values op.operands) ≡ Some ts
-    → given op alone ts ≡ Some t → IsOfValueType op.result t
+    → given op alone ts ≡ Some t → IsOfSourceType op.result t
 typed_where_reached f arguments op values ts t r h e =
     let known = typed_there f arguments op values r in
-    let s = sound known.scope op known.verified in
-    elim (tensor_or_none op.kind s.source) [
-      | inl has ↦ result_typed known.scope op ts known.verified has (found_types op values ts known has h) t e
+    elim (tensor_or_none op.kind (source_op known.scope op known.source known.verified).source) [
+      | inl has ↦
+          source_type op.result t (known_result known.scope op known.source known.verified (on_devices (class_of op.kind) has))
+          (result_typed_alone known.scope op ts known.source known.verified (on_devices (class_of op.kind) has) (found_types op values ts known has h) t e)
       | inr n ↦ absurd (none_given op ts t (n.gives op.operands op.result) e)
     ]

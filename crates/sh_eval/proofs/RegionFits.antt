@@ -30,8 +30,9 @@ use Rattle.sh_pieces.proofs.Names.{place_below, place_push}
 use Rattle.sh_sem.specs.Region.{first_names, placed, placed_ops}
 use Rattle.sh_sem.specs.Scalars.{width_of}
 use Rattle.sh_eval.specs.Sources.{has_value}
-use Rattle.sh_eval.specs.VerifiedOps.{HaveScalarConstants, IsBody, IsBodyOp}
-use Rattle.sh_eval.proofs.CapturedLaws.{body_arity, is_usable, scalar_value, type_named}
+use Rattle.sh_collectives.specs.VerifiedOps.{HaveScalarConstants, IsBody, IsBodyOp}
+use Rattle.sh_collectives.proofs.CapturedLaws.{body_arity, is_usable}
+use Rattle.sh_eval.proofs.CapturedTypes.{scalar_value, type_named}
 use Rattle.sh_eval.proofs.KindFits.{can_cast, constant_held}
 use Rattle.sh_eval.proofs.TypeLaws.{bits_are, equal_numbers, one_type, one_width}
 

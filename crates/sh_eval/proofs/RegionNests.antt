@@ -29,14 +29,16 @@ use Rattle.sh_loops.proofs.InsideLaws.{both_left, both_right}
 use Rattle.sh_sem.specs.Scalars.{width_of}
 use Rattle.sh_tensor.specs.Tensor.{TensorValue}
 use Rattle.sh_eval.specs.Evaluations.{FitsKind}
-use Rattle.sh_eval.specs.Sources.{has_value}
-use Rattle.sh_eval.specs.VerifiedOps.{HaveScalarConstants, IsBody}
-use Rattle.sh_eval.proofs.CapturedLaws.{all_joined, is_usable, take_long, type_named}
+use Rattle.sh_eval.specs.Sources.{AreOfValueTypes, has_value}
+use Rattle.sh_collectives.specs.VerifiedOps.{HaveScalarConstants, IsBody}
+use Rattle.sh_collectives.proofs.CapturedLaws.{all_joined, is_usable, take_long}
+use Rattle.sh_eval.proofs.CapturedTypes.{type_named}
 use Rattle.sh_eval.proofs.NamedFits.{identity_follows, input_short, output_value, unlisted_follows}
 use Rattle.sh_eval.proofs.NestFits.{IsNestOf, can_nest, output_width, single_follows}
 use Rattle.sh_eval.proofs.RegionFits.{region_fits_widths}
-use Rattle.sh_eval.proofs.RuleFacts.{OneOutput, all_back, all_front, one_output}
-use Rattle.sh_eval.proofs.TypeLaws.{AreOfValueTypes, equal_numbers}
+use Rattle.sh_collectives.proofs.RuleLaws.{all_back, all_front}
+use Rattle.sh_eval.proofs.RuleFacts.{OneOutput, one_output}
+use Rattle.sh_eval.proofs.TypeLaws.{equal_numbers}
 
 -- what is known of a region and of the values that it uses
 pub record IsRegionOf (outer : List Value) (body : Body) (operands : List ℕ) (types : List ValueType) : Type 0 where

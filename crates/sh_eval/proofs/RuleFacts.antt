@@ -1,11 +1,11 @@
--- What the rules say of an operation of a verified function in source form.
-use Rattle.std.proofs.Common.{◌≡◌, ℕ, ◌+◌, Bool, true, false, List, [], ◌∷◌, ◌++◌, length, Option, Some, None, refl, ap, sym, ◌∙◌, arith, subst}
+-- What the rules say of the types that an operation of a verified function writes.
+use Rattle.std.proofs.Common.{◌≡◌, ℕ, ◌+◌, Bool, true, false, List, [], ◌∷◌, ◌++◌, length, Option, Some, None, refl, ap, sym, ◌∙◌, arith, subst, inl, inr}
 use Rattle.std.proofs.lemmas.List.{length-append}
 use Rattle.std.specs.List.{list_all, list_any}
 use Rattle.std.specs.Option.{option_map_or}
-use Rattle.std.specs.Prelude.{◌&&◌, ◌||◌, nat_eq, not}
-use Rattle.sh_base.specs.declared.rules.Rule.TheVariants.{L2, L4, V1, V3, V4, V5, V8, V9, V10}
+use Rattle.std.specs.Prelude.{◌&&◌, ◌⊎◌, nat_eq, nat_lt, not}
 use Rattle.sh_ir.specs.declared.linalg_ops.Broadcast as declared_broadcast
+use Rattle.sh_ir.specs.declared.linalg_ops.Generic as declared_generic
 use Rattle.sh_ir.specs.declared.linalg_ops.InsOuts.{InsOuts}
 use Rattle.sh_ir.specs.declared.linalg_ops.Reduce as declared_reduce
 use Rattle.sh_ir.specs.declared.linalg_ops.Transpose as declared_transpose
@@ -15,48 +15,21 @@ use Rattle.sh_ir.specs.declared.operations.OpKind.TheVariants.{Constant, Binary,
 use Rattle.sh_ir.specs.declared.types.ValueType.{ValueType}
 use Rattle.sh_ir.specs.declared.types.ValueType.TheVariants as value_type
 use Rattle.sh_ir.specs.Agreement.{has_differing}
-use Rattle.sh_ir.specs.Attributes.{numbers_fit}
 use Rattle.sh_ir.specs.Classes.{class_of}
-use Rattle.sh_ir.specs.Formed.{ResultFits, is_scalar, is_spelled_type, types_in}
-use Rattle.sh_ir.specs.Limits.{has_few_cells, has_few_dims, has_few_loops}
-use Rattle.sh_ir.specs.Loops.{generic_of}
-use Rattle.sh_ir.specs.Maps.{maps_fit}
-use Rattle.sh_ir.specs.Operands.{operands_fit}
-use Rattle.sh_ir.specs.Results.{result_fits}
-use Rattle.sh_ir.specs.Rules.{has_region_in_order, is_in_form, is_of_source, keeps, op_types_of, takes_operands, uses_defined}
-use Rattle.sh_ir.specs.Scope.{Scope, is_defined}
-use Rattle.sh_ir.specs.Typing.{are_of_types, counts_fit, names, names_typed, operand_types, tensor_types, typing_of, written_operands}
+use Rattle.sh_ir.specs.Formed.{ResultFits, captured_in, is_spelled_type, types_in}
+use Rattle.sh_ir.specs.Limits.{has_few_cells, has_few_dims}
+use Rattle.sh_ir.specs.Rules.{is_in_form, is_of_source, op_types_of}
+use Rattle.sh_ir.specs.Scope.{Scope}
+use Rattle.sh_ir.specs.Typing.{counts_fit, names, names_typed, operand_types, typing_of}
 use Rattle.sh_ir.specs.Written.{first_type, test_type, written_by}
-use Rattle.sh_ir.proofs.KeptLaws.{kept_here}
 use Rattle.sh_loops.proofs.InsideLaws.{both_left, both_right}
+use Rattle.sh_collectives.proofs.RuleLaws.{all_back, all_front, is_not, neither_left, neither_right, sound}
 use Rattle.sh_eval.specs.Sources.{has_value}
-use Rattle.sh_eval.specs.VerifiedOps.{HasTensor, IsOfVerifiedOp}
+use Rattle.sh_collectives.specs.VerifiedOps.{IsOfVerifiedOp}
+use Rattle.sh_eval.specs.VerifiedOps.{GivesTensor}
 use Rattle.sh_eval.proofs.TypeLaws.{equal_numbers}
 
--- ---- tests
-
-pub neither_left : (a b : Bool) → (a || b) ≡ false → a ≡ false
-neither_left true b h = absurd (cc)
-neither_left false b h = refl
-
-pub neither_right : (a b : Bool) → (a || b) ≡ false → b ≡ false
-neither_right true b h = absurd (cc)
-neither_right false b h = h
-
-pub is_not : (b : Bool) → not b ≡ true → b ≡ false
-is_not true h = absurd (cc)
-is_not false h = refl
-
-pub all_front : {X : Type 0} (p : X → Bool) (xs ys : List X) → list_all p (xs ++ ys) ≡ true → list_all p xs ≡ true
-all_front p [] ys h = refl
-all_front p (x ∷ xs) ys h =
-    let here = both_left (p x) (list_all p (xs ++ ys)) h in
-    let rest = all_front p xs ys (both_right (p x) (list_all p (xs ++ ys)) h) in
-    rw (here, rest) refl
-
-pub all_back : {X : Type 0} (p : X → Bool) (xs ys : List X) → list_all p (xs ++ ys) ≡ true → list_all p ys ≡ true
-all_back p [] ys h = h
-all_back p (x ∷ xs) ys h = all_back p xs ys (both_right (p x) (list_all p (xs ++ ys)) h)
+-- ---- in source form
 
 none_differs : (ts : List ValueType) → list_any has_differing ts ≡ false → list_all (λ t. not (has_differing t)) ts ≡ true
 none_differs [] h = refl
@@ -65,52 +38,22 @@ none_differs (t ∷ ts) h =
     let rest = none_differs ts (neither_right (has_differing t) (list_any has_differing ts) h) in
     rw (here, rest) refl
 
--- ---- the rules, one by one
-
-pub record Sound (scope : Scope) (op : Op) : Type 0 where
-  pub there : list_all (is_defined scope.values) (written_operands op) ≡ true
-  pub counts : counts_fit op.kind op.operands ≡ true
-  pub types : are_of_types scope.values (typing_of op.kind op.result) (written_operands op) ≡ true
-  pub tensors : list_all (λ t. not (is_scalar t)) (tensor_types op.kind op.result) ≡ true
-  pub operands : operands_fit scope op.kind op.result ≡ true
-  pub results : result_fits scope op.kind op.result ≡ true
-  pub numbers : numbers_fit scope op.kind op.result ≡ true
-  pub maps : option_map_or maps_fit (generic_of op.kind) true ≡ true
-  pub region : has_region_in_order scope op.kind ≡ true
-  pub source : is_of_source (class_of op.kind) ≡ true
-  pub known : list_all (λ t. not (has_differing t)) (op_types_of op) ≡ true
-  pub dims : list_all has_few_dims (op_types_of op) ≡ true
-  pub loops : has_few_loops op.kind ≡ true
-  pub cells : list_all has_few_cells (op_types_of op) ≡ true
-
 in_source : (a b : Bool) (F : List ℕ → Bool) (device : Option (List ℕ)) → device ≡ None → (a && option_map_or F device b) ≡ true → b ≡ true
 in_source a b F None e h = both_right a b h
 in_source a b F (Some g) e h = absurd (cc)
 
--- each rule, taken from what the operation keeps
-pub sound : (scope : Scope) (op : Op) → IsOfVerifiedOp scope op → Sound scope op
-unfolding keeps takes_operands is_in_form uses_defined
-sound scope op v =
-    let v3 = kept_here V3 scope op (v.keeps V3) in
-    let typed = both_right _ _ v3 in
-    let last = both_right _ _ typed in
-    let form = in_source _ _ _ scope.device v.source (kept_here V10 scope op (v.keeps V10)) in
-    let l2 = kept_here L2 scope op (v.keeps L2) in
+pub record IsSourceOp (op : Op) : Type 0 where
+  pub source : is_of_source (class_of op.kind) ≡ true
+  pub known : list_all (λ t. not (has_differing t)) (op_types_of op) ≡ true
+
+-- no operation of devices, and no extent that differs
+pub source_op : (scope : Scope) (op : Op) → scope.device ≡ None → IsOfVerifiedOp scope op → IsSourceOp op
+unfolding is_in_form
+source_op scope op none v =
+    let form = in_source _ _ _ scope.device none (sound scope op v).form in
     record {
-      there = kept_here V1 scope op (v.keeps V1);
-      counts = both_left _ _ v3;
-      types = both_left _ _ typed;
-      tensors = both_left _ _ last;
-      operands = both_right _ _ last;
-      results = kept_here V4 scope op (v.keeps V4);
-      numbers = kept_here V5 scope op (v.keeps V5);
-      maps = kept_here V8 scope op (v.keeps V8);
-      region = kept_here V9 scope op (v.keeps V9);
       source = both_left _ _ form;
       known = none_differs (op_types_of op) (is_not _ (both_right _ _ form));
-      dims = both_left _ _ l2;
-      loops = both_right _ _ l2;
-      cells = kept_here L4 scope op (v.keeps L4);
     }
 
 -- ---- as many types as operands are written
@@ -128,46 +71,71 @@ arity_typed x h =
 arity_named : (inputs : ℕ) (x : InsOuts) → names inputs x ≡ true → Some (x.ins_count + x.outs_count) ≡ Some (length (operand_types x))
 arity_named inputs x h = arity_typed x (both_right (nat_eq x.ins_count inputs && nat_eq x.outs_count 1) (names_typed x) h)
 
--- the form has as many operands as there are types for them
-pub arity : (kind : OpKind) (operands : List ℕ) (result : ValueType) → HasTensor (class_of kind) → counts_fit kind operands ≡ true
-    → (written_by kind).operands ≡ Some (length (typing_of kind result))
+-- a form that leaves a choice, and has no region
+pub record TakesAll (kind : OpKind) (operands : List ℕ) (n : ℕ) : Type 0 where
+  pub free : (written_by kind).operands ≡ None
+  pub long : length operands ≡ n
+  pub alone : captured_in (written_by kind) ≡ []
+
+-- there are as many operands as types for them: the form has so many, or it takes all
+abbrev pub HasArity : OpKind → List ℕ → ℕ → Type 0
+HasArity kind operands n = ((written_by kind).operands ≡ Some n) ⊎ TakesAll kind operands n
+
+pub arity : (kind : OpKind) (operands : List ℕ) (result : ValueType) → GivesTensor (class_of kind) → counts_fit kind operands ≡ true
+    → HasArity kind operands (length (typing_of kind result))
 unfolding counts_fit typing_of
-arity (Constant x) operands result has h = refl
-arity (Binary x) operands result has h = refl
-arity (Compare x) operands result has h = refl
-arity (Select x) operands result has h = refl
-arity (Cast x) operands result has h = refl
-arity Empty operands result has h = refl
-arity (ExtractSlice x) operands result has h = refl
-arity (InsertSlice x) operands result has h = refl
-arity (CollapseShape x) operands result has h = refl
-arity (ExpandShape x) operands result has h = refl
-arity (Fill x) operands result has h = arity_named 1 x h
-arity (Matmul x) operands result has h = arity_named 2 x h
-arity (BatchMatmul x) operands result has h = arity_named 2 x h
-arity (Matvec x) operands result has h = arity_named 2 x h
-arity (Vecmat x) operands result has h = arity_named 2 x h
-arity (Dot x) operands result has h = arity_named 2 x h
-arity (Conv1d x) operands result has h = arity_named 2 x h
-arity (Conv2d x) operands result has h = arity_named 2 x h
-arity (Transpose x) operands result has h = arity_named 1 x.ins_outs h
-arity (Broadcast x) operands result has h = arity_named 1 x.ins_outs h
-arity (Reduce x) operands result has h = arity_named 1 x.ins_outs h
-arity (Generic x) operands result has h = arity_typed x.ins_outs h
+arity (Constant x) operands result has h = inl refl
+arity (Binary x) operands result has h = inl refl
+arity (Compare x) operands result has h = inl refl
+arity (Select x) operands result has h = inl refl
+arity (Cast x) operands result has h = inl refl
+arity Empty operands result has h = inl refl
+arity (ExtractSlice x) operands result has h = inl refl
+arity (InsertSlice x) operands result has h = inl refl
+arity (CollapseShape x) operands result has h = inl refl
+arity (ExpandShape x) operands result has h = inl refl
+arity (Fill x) operands result has h = inl (arity_named 1 x h)
+arity (Matmul x) operands result has h = inl (arity_named 2 x h)
+arity (BatchMatmul x) operands result has h = inl (arity_named 2 x h)
+arity (Matvec x) operands result has h = inl (arity_named 2 x h)
+arity (Vecmat x) operands result has h = inl (arity_named 2 x h)
+arity (Dot x) operands result has h = inl (arity_named 2 x h)
+arity (Conv1d x) operands result has h = inl (arity_named 2 x h)
+arity (Conv2d x) operands result has h = inl (arity_named 2 x h)
+arity (Transpose x) operands result has h = inl (arity_named 1 x.ins_outs h)
+arity (Broadcast x) operands result has h = inl (arity_named 1 x.ins_outs h)
+arity (Reduce x) operands result has h = inl (arity_named 1 x.ins_outs h)
+arity (Generic x) operands result has h = inl (arity_typed x.ins_outs h)
 arity (Sharding x) operands result has h = absurd has
 arity (Shard x) operands result has h = absurd has
-arity (AllGather x) operands result has h = absurd has
-arity (AllSlice x) operands result has h = absurd has
-arity (AllReduce x) operands result has h = absurd has
-arity (ReduceScatter x) operands result has h = absurd has
-arity (AllToAll x) operands result has h = absurd has
-arity (Shift x) operands result has h = absurd has
-arity (UpdateHalo x) operands result has h = absurd has
-arity (Take x) operands result has h = absurd has
-arity (Pad x) operands result has h = absurd has
-arity (Join x) operands result has h = absurd has
+arity (AllGather x) operands result has h = inl refl
+arity (AllSlice x) operands result has h = inl refl
+arity (AllReduce x) operands result has h = inl refl
+arity (ReduceScatter x) operands result has h = inl refl
+arity (AllToAll x) operands result has h = inl refl
+arity (Shift x) operands result has h = inl refl
+arity (UpdateHalo x) operands result has h = inl refl
+arity (Take x) operands result has h = inl refl
+arity (Pad x) operands result has h = inl refl
+arity (Join x) operands result has h =
+    inr (record {
+      free = refl;
+      long = equal_numbers (length operands) (length x.operand_types)
+          (both_right (nat_lt 0 (length operands)) (nat_eq (length operands) (length x.operand_types)) h);
+      alone = refl;
+    })
 arity (Call x) operands result has h = absurd has
 arity (Return x) operands result has h = absurd has
+
+pub count_reduce : (x : declared_reduce.Reduce) (operands : List ℕ) (result : ValueType) → counts_fit (Reduce x) operands ≡ true
+    → (written_by (Reduce x)).operands ≡ Some (length (typing_of (Reduce x) result))
+unfolding counts_fit typing_of
+count_reduce x operands result h = arity_named 1 x.ins_outs h
+
+pub count_generic : (x : declared_generic.Generic) (operands : List ℕ) (result : ValueType) → counts_fit (Generic x) operands ≡ true
+    → (written_by (Generic x)).operands ≡ Some (length (typing_of (Generic x) result))
+unfolding counts_fit typing_of
+count_generic x operands result h = arity_typed x.ins_outs h
 
 -- ---- types that have values
 
@@ -178,7 +146,7 @@ spelled_value value_type.Nothing h = absurd (cc)
 spelled_value value_type.Sharding h = absurd (cc)
 spelled_value value_type.Index h = absurd (cc)
 
-spelled_values : (ts : List ValueType) → list_all is_spelled_type ts ≡ true → list_all has_value ts ≡ true
+pub spelled_values : (ts : List ValueType) → list_all is_spelled_type ts ≡ true → list_all has_value ts ≡ true
 spelled_values [] h = refl
 spelled_values (t ∷ ts) h =
     let here = spelled_value t (both_left (is_spelled_type t) (list_all is_spelled_type ts) h) in
@@ -197,7 +165,7 @@ pub passes_last : (P : ValueType → Bool) (ts : List ValueType) (t : ValueType)
 passes_last P ts t h = passes_first P t [] (all_back P ts (t ∷ []) h)
 
 -- of the types of the operands
-pub typing_passes : (P : ValueType → Bool) (kind : OpKind) (result : ValueType) → HasTensor (class_of kind)
+pub typing_passes : (P : ValueType → Bool) (kind : OpKind) (result : ValueType) → GivesTensor (class_of kind)
     → list_all P (types_in (written_by kind) result) ≡ true → list_all P (typing_of kind result) ≡ true
 unfolding typing_of
 typing_passes P (Constant x) result has h = refl
@@ -226,21 +194,21 @@ typing_passes P (Reduce x) result has h = all_front P (operand_types x.ins_outs)
 typing_passes P (Generic x) result has h = all_front P (operand_types x.ins_outs) (result ∷ []) h
 typing_passes P (Sharding x) result has h = absurd has
 typing_passes P (Shard x) result has h = absurd has
-typing_passes P (AllGather x) result has h = absurd has
-typing_passes P (AllSlice x) result has h = absurd has
-typing_passes P (AllReduce x) result has h = absurd has
-typing_passes P (ReduceScatter x) result has h = absurd has
-typing_passes P (AllToAll x) result has h = absurd has
-typing_passes P (Shift x) result has h = absurd has
-typing_passes P (UpdateHalo x) result has h = absurd has
-typing_passes P (Take x) result has h = absurd has
-typing_passes P (Pad x) result has h = absurd has
-typing_passes P (Join x) result has h = absurd has
+typing_passes P (AllGather x) result has h = let r = passes_first P x.operand_type (result ∷ []) h in rw r refl
+typing_passes P (AllSlice x) result has h = let r = passes_first P x.operand_type (result ∷ []) h in rw r refl
+typing_passes P (AllReduce x) result has h = let r = passes_first P x.operand_type (result ∷ []) h in rw r refl
+typing_passes P (ReduceScatter x) result has h = let r = passes_first P x.operand_type (result ∷ []) h in rw r refl
+typing_passes P (AllToAll x) result has h = let r = passes_first P x.operand_type (result ∷ []) h in rw r refl
+typing_passes P (Shift x) result has h = let r = passes_first P x.operand_type (result ∷ []) h in rw r refl
+typing_passes P (UpdateHalo x) result has h = let r = passes_first P result [] h in rw r refl
+typing_passes P (Take x) result has h = let r = passes_first P x.operand_type (result ∷ []) h in rw r refl
+typing_passes P (Pad x) result has h = let r = passes_first P x.operand_type (result ∷ []) h in rw r refl
+typing_passes P (Join x) result has h = all_front P x.operand_types (result ∷ []) h
 typing_passes P (Call x) result has h = absurd has
 typing_passes P (Return x) result has h = absurd has
 
 -- so values of these types have tensors
-pub typing_values : (kind : OpKind) (result : ValueType) → HasTensor (class_of kind)
+pub typing_values : (kind : OpKind) (result : ValueType) → GivesTensor (class_of kind)
     → list_all is_spelled_type (types_in (written_by kind) result) ≡ true → list_all has_value (typing_of kind result) ≡ true
 typing_values kind result has h = spelled_values (typing_of kind result) (typing_passes is_spelled_type kind result has h)
 
@@ -290,7 +258,7 @@ unfolding counts_fit
 counts_reduce x operands h = h
 
 module _ (P : ValueType → Bool) (test : (t : ValueType) → P t ≡ true → P (test_type t) ≡ true) where
-  pub result_passes : (kind : OpKind) (operands : List ℕ) (result : ValueType) → HasTensor (class_of kind) → counts_fit kind operands ≡ true
+  pub result_passes : (kind : OpKind) (operands : List ℕ) (result : ValueType) → GivesTensor (class_of kind) → counts_fit kind operands ≡ true
       → ResultFits (written_by kind).result result
       → list_all P (types_in (written_by kind) result) ≡ true → P result ≡ true
   result_passes (Constant x) operands result has counts fits h = subst (λ t. P t ≡ true) (sym fits) (passes_first P x.value_type [] h)
@@ -321,16 +289,16 @@ module _ (P : ValueType → Bool) (test : (t : ValueType) → P t ≡ true → P
   result_passes (Generic x) operands result has counts fits h = passes_last P (operand_types x.ins_outs) result h
   result_passes (Sharding x) operands result has counts fits h = absurd has
   result_passes (Shard x) operands result has counts fits h = absurd has
-  result_passes (AllGather x) operands result has counts fits h = absurd has
-  result_passes (AllSlice x) operands result has counts fits h = absurd has
-  result_passes (AllReduce x) operands result has counts fits h = absurd has
-  result_passes (ReduceScatter x) operands result has counts fits h = absurd has
-  result_passes (AllToAll x) operands result has counts fits h = absurd has
-  result_passes (Shift x) operands result has counts fits h = absurd has
-  result_passes (UpdateHalo x) operands result has counts fits h = absurd has
-  result_passes (Take x) operands result has counts fits h = absurd has
-  result_passes (Pad x) operands result has counts fits h = absurd has
-  result_passes (Join x) operands result has counts fits h = absurd has
+  result_passes (AllGather x) operands result has counts fits h = passes_second P x.operand_type result h
+  result_passes (AllSlice x) operands result has counts fits h = passes_second P x.operand_type result h
+  result_passes (AllReduce x) operands result has counts fits h = passes_second P x.operand_type result h
+  result_passes (ReduceScatter x) operands result has counts fits h = passes_second P x.operand_type result h
+  result_passes (AllToAll x) operands result has counts fits h = passes_second P x.operand_type result h
+  result_passes (Shift x) operands result has counts fits h = passes_second P x.operand_type result h
+  result_passes (UpdateHalo x) operands result has counts fits h = passes_first P result [] h
+  result_passes (Take x) operands result has counts fits h = passes_second P x.operand_type result h
+  result_passes (Pad x) operands result has counts fits h = passes_second P x.operand_type result h
+  result_passes (Join x) operands result has counts fits h = passes_last P x.operand_types result h
   result_passes (Call x) operands result has counts fits h = absurd has
   result_passes (Return x) operands result has counts fits h = absurd has
 
@@ -368,19 +336,22 @@ test_small value_type.Index h = refl
 
 pub record IsSoundResult (result : ValueType) : Type 0 where
   pub spelled : is_spelled_type result ≡ true
-  pub known : has_differing result ≡ false
   pub short : has_few_dims result ≡ true
   pub small : has_few_cells result ≡ true
 
--- the type of the result is spelled, known, short and small
-pub sound_result : (scope : Scope) (op : Op) → IsOfVerifiedOp scope op → HasTensor (class_of op.kind) → IsSoundResult op.result
+-- the type of the result is spelled, short and small
+pub sound_result : (scope : Scope) (op : Op) → IsOfVerifiedOp scope op → GivesTensor (class_of op.kind) → IsSoundResult op.result
 sound_result scope op v has =
     let s = sound scope op v in
     record {
       spelled = result_passes is_spelled_type test_value op.kind op.operands op.result has s.counts v.result v.spelled;
-      known =
-          is_not (has_differing op.result) (result_passes
-          (λ t. not (has_differing t)) test_known op.kind op.operands op.result has s.counts v.result s.known);
       short = result_passes has_few_dims test_short op.kind op.operands op.result has s.counts v.result s.dims;
       small = result_passes has_few_cells test_small op.kind op.operands op.result has s.counts v.result s.cells;
     }
+
+-- and in source form it is known
+pub known_result : (scope : Scope) (op : Op) → scope.device ≡ None → IsOfVerifiedOp scope op → GivesTensor (class_of op.kind)
+    → has_differing op.result ≡ false
+known_result scope op none v has =
+    is_not (has_differing op.result) (result_passes
+    (λ t. not (has_differing t)) test_known op.kind op.operands op.result has (sound scope op v).counts v.result (source_op scope op none v).known)

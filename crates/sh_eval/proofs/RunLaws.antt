@@ -1,5 +1,5 @@
 -- Operations one after the other: what is still to be done after one, and arguments under their names.
-use Rattle.std.proofs.Common.{◌≡◌, ℕ, zero, suc, ◌+◌, ◌<◌, ◌≤◌, Bool, true, false, List, [], ◌∷◌, ◌++◌, map, length, take, drop, get_or, Option, Some, None, refl, ap, ap₂, sym, ◌∙◌, arith, subst, add-one}
+use Rattle.std.proofs.Common.{◌≡◌, ℕ, zero, suc, ◌+◌, ◌<◌, ◌≤◌, Bool, true, List, [], ◌∷◌, ◌++◌, map, length, take, drop, get_or, Option, Some, None, refl, ap, ap₂, sym, ◌∙◌, arith, subst, add-one}
 use Rattle.std.specs.Prelude.{IfSome, if◌then◌else◌}
 use Rattle.std.proofs.lemmas.Bool.{true≢false}
 use Rattle.std.proofs.lemmas.List.{drop_all, length-map, length-take, take_all}
@@ -11,11 +11,11 @@ use Rattle.sh_ir.specs.declared.classification.OpClass.TheVariants as class
 use Rattle.sh_ir.specs.declared.functions.Arg.{Arg}
 use Rattle.sh_ir.specs.declared.functions.Func.{Func}
 use Rattle.sh_ir.specs.declared.operations.Op.{Op}
-use Rattle.sh_pieces.specs.Instructions.{is_name, value_under}
+use Rattle.sh_pieces.specs.Instructions.{value_under}
 use Rattle.sh_pieces.specs.Runs.{argument_under}
 use Rattle.sh_pieces.proofs.Names.{value_push}
 use Rattle.sh_sem.specs.Given.{alone}
-use Rattle.sh_sem.specs.Meaning.{Evaluation, Results, StuckAt, Values, after_class, results_in, with_value}
+use Rattle.sh_sem.specs.Meaning.{Results, StuckAt, Values, after_class, results_in, with_value}
 use Rattle.sh_sem.specs.Returned.{returned}
 use Rattle.sh_sem.specs.Types.{AreOfTypes}
 use Rattle.sh_tensor.specs.Tensor.{TensorValue}
@@ -24,14 +24,14 @@ use Rattle.sh_eval.specs.Evaluations.{CanEvaluate}
 use Rattle.sh_eval.specs.Functions.{CanEvaluateFrom, CanStep, IsDone, IsStuck}
 use Rattle.sh_eval.specs.Reached.{values_at_start}
 use Rattle.sh_eval.specs.Sources.{HaveTypes, IsOfSource}
-use Rattle.sh_eval.specs.VerifiedOps.{IsOfVerifiedOp}
-use Rattle.sh_eval.specs.Work.{Outcome, Ended, TooMuchAt, load_in, max_work, outcome, outcome_from, passes}
-use Rattle.sh_eval.proofs.Evaluable.{can_evaluate}
+use Rattle.sh_collectives.specs.VerifiedOps.{IsOfVerifiedOp}
+use Rattle.sh_eval.specs.Work.{Outcome, Ended, TooMuchAt, load_in, outcome, outcome_from, passes}
+use Rattle.sh_eval.proofs.Evaluable.{can_evaluate_alone}
 use Rattle.sh_eval.proofs.OperandLaws.{operands_there}
-use Rattle.sh_eval.proofs.ReachedLaws.{AreVerified}
-use Rattle.sh_eval.proofs.RuleFacts.{sound}
-use Rattle.sh_eval.proofs.SourceOps.{source_op}
-use Rattle.sh_eval.proofs.TypingLaws.{args_typed, typed_after}
+use Rattle.sh_eval.proofs.ReachedLaws.{AreVerified, on_devices, source_args}
+use Rattle.sh_eval.proofs.SourceOps.{op_there, source_scope}
+use Rattle.sh_eval.proofs.RuleFacts.{source_op}
+use Rattle.sh_eval.proofs.TypingLaws.{typed_after}
 
 -- ---- one operation
 
@@ -143,20 +143,21 @@ start_is f arguments params args values params_are args_are is = is ∙ ap₂ (�
 not_of_device : (c : OpClass) → is_of_source c ≡ true → c ≡ class.DeviceLayout → ⊥
 not_of_device c source e = true≢false (sym source ∙ ap is_of_source e)
 
-step_of_scope : (scope : Scope) (op : Op) (values : Values) → IsOfVerifiedOp scope op → HaveTypes scope.values values → CanStep op values
-step_of_scope scope op values v have = record {
-  source = not_of_device (class_of op.kind) (sound scope op v).source;
+step_of_scope : (scope : Scope) (op : Op) (values : Values) → scope.device ≡ None → IsOfVerifiedOp scope op → HaveTypes scope.values values → CanStep op values
+step_of_scope scope op values none v have = record {
+  source = not_of_device (class_of op.kind) (source_op scope op none v).source;
   evaluates = λ gives.
-      let found = operands_there scope op values v gives have in
-      subst (λ o. IfSome o (CanEvaluate op alone)) (sym found.there) (can_evaluate scope op found.ts v gives found.typed);
+      let has = on_devices (class_of op.kind) gives in
+      let found = operands_there scope op values v has have in
+      subst (λ o. IfSome o (CanEvaluate op alone)) (sym found.there) (can_evaluate_alone scope op found.ts none v has found.typed);
 }
 
-can_from : (scope : Scope) (ops : List Op) (values : Values) → AreVerified scope ops → HaveTypes scope.values values → CanEvaluateFrom ops values
-can_from scope [] values verified have = tt
-can_from scope (op ∷ ops) values verified have = (
-  step_of_scope scope op values (verified 0 op refl) have,
+can_from : (scope : Scope) (ops : List Op) (values : Values) → scope.device ≡ None → AreVerified scope ops → HaveTypes scope.values values → CanEvaluateFrom ops values
+can_from scope [] values none verified have = tt
+can_from scope (op ∷ ops) values none verified have = (
+  step_of_scope scope op values none (verified 0 op refl) have,
   go (after_class (class_of op.kind) op values)
-      (λ after e. can_from (scope_after scope op) ops after (λ j other is. verified (suc j) other is) (typed_after scope op values after (verified 0 op refl) have e)),
+      (λ after e. can_from (scope_after scope op) ops after none (λ j other is. verified (suc j) other is) (typed_after scope op values after none (verified 0 op refl) have e)),
 )
   where
     go : (o : Option Values) → ((after : Values) → o ≡ Some after → CanEvaluateFrom ops after) → IfSome o (CanEvaluateFrom ops)
@@ -166,4 +167,5 @@ can_from scope (op ∷ ops) values verified have = (
 -- each operation that is reached can be evaluated
 pub source_evaluates : (f : Func) (arguments : List TensorValue) → IsOfSource f → AreOfTypes (map (λ a. a.value_type) f.args) arguments → CanEvaluateFrom f.ops (values_at_start f arguments)
 source_evaluates f arguments h typed =
-    can_from (scope_of h.whole f) f.ops (values_at_start f arguments) (λ j other e. source_op f h j other e) (args_typed h.whole f arguments typed)
+    can_from (scope_of h.whole f) f.ops (values_at_start f arguments) (source_scope f h) (λ j other e. op_there f h j other e)
+    (source_args f arguments h typed)

@@ -1,5 +1,5 @@
 -- What an operation gives on a device, by a seat at which it gives the same.
-use Rattle.std.proofs.Common.{◌≡◌, ℕ, ◌+◌, ◌<◌, ◌≤◌, true, false, List, [], ◌∷◌, ◌++◌, map, take, length, get_or, Option, None, refl, ap, sym, ◌∙◌, arith, subst, inl, inr}
+use Rattle.std.proofs.Common.{◌≡◌, ℕ, ◌+◌, ◌<◌, ◌≤◌, true, false, List, [], ◌∷◌, ◌++◌, take, length, get_or, Option, None, refl, ap, sym, ◌∙◌, arith, subst, inl, inr}
 use Rattle.std.proofs.lemmas.Bool.{cases_Bool}
 use Rattle.std.proofs.lemmas.Bool.Decides.{nat_tests}
 use Rattle.std.proofs.lemmas.List.{get_or-map, length-map, take_all, take_more}
@@ -18,7 +18,7 @@ use Rattle.sh_ir.specs.Numbers.{as_natural, as_naturals}
 use Rattle.sh_ir.specs.Typing.{typing_of}
 use Rattle.sh_sem.specs.Given.{Giving, Seat, built_of, cell_given, given, giving, have_all_extents, of_dims, shape_given}
 use Rattle.sh_sem.specs.Scalars.{width_of}
-use Rattle.sh_sem.specs.Steps.{axes_of, seat_of, steps_on}
+use Rattle.sh_sem.specs.Steps.{axes_of, steps_on}
 use Rattle.sh_tensor.specs.Tensor.{TensorValue}
 use Rattle.sh_eval.specs.Evaluations.{CanEvaluate}
 use Rattle.sh_eval.specs.Seats.{GivesAlike, seat_along}

@@ -1,5 +1,5 @@
 -- The shape that an operation gives, by its kind, and how large what it gives is.
-use Rattle.std.proofs.Common.{◌≡◌, ℕ, zero, suc, ◌+◌, ◌≤◌, ◌<◌, Bool, true, false, List, [], ◌∷◌, map, Option, Some, None, refl, ap, ap₂, sym, ◌∙◌, arith, subst, inl, inr}
+use Rattle.std.proofs.Common.{◌≡◌, ℕ, ◌≤◌, Bool, true, false, List, Option, Some, None, refl, ap, sym, ◌∙◌, subst, inl, inr}
 use Rattle.std.specs.Prelude.{◌⊎◌, IfSome, option_map, option_and_then, if◌then◌else◌}
 use Rattle.std.specs.Option.{option_map_or}
 use Rattle.std.proofs.lemmas.Option.{none-some, same_Some}
@@ -32,7 +32,7 @@ use Rattle.sh_tensor.specs.Tensor.{TensorValue}
 use Rattle.sh_eval.specs.Cuts.{cut_shape}
 use Rattle.sh_eval.specs.Evaluations.{FitsKind, KindGivesFew}
 use Rattle.sh_eval.specs.VerifiedOps.{HasTensor}
-use Rattle.sh_eval.specs.Sizes.{kind_sized, sized, with_points}
+use Rattle.sh_eval.specs.Sizes.{kind_sized, sized}
 use Rattle.sh_eval.specs.Values.{GivesFew, IsFew, shapes_of}
 use Rattle.sh_eval.specs.Work.{loop_points}
 use Rattle.sh_eval.proofs.EvaluationLaws.{IsNest, convolution_nest, structured_nest}

@@ -20,7 +20,7 @@ use Rattle.sh_sem.specs.Scalars.{width_of}
 use Rattle.sh_tensor.specs.Tensor.{IsTensor, TensorValue}
 use Rattle.sh_turns.specs.Program.{all_there}
 use Rattle.sh_loops.proofs.InsideLaws.{both_left, both_right}
-use Rattle.sh_eval.specs.Sources.{HaveTypes, IsOfValueType, has_value}
+use Rattle.sh_eval.specs.Sources.{AreOfValueTypes, HaveTypes, IsOfValueType, has_value}
 
 -- ---- widths, extents and types by their tests
 
@@ -138,13 +138,6 @@ typed_whole (Scalar w) t h = h.whole
 typed_whole Nothing t h = absurd h
 typed_whole Sharding t h = absurd h
 typed_whole Index t h = absurd h
-
--- one tensor for each type
-abbrev pub AreOfValueTypes : List ValueType → List TensorValue → Type 0
-AreOfValueTypes [] [] = Unit {0}
-AreOfValueTypes [] (t ∷ ts) = ⊥
-AreOfValueTypes (type ∷ types) [] = ⊥
-AreOfValueTypes (type ∷ types) (t ∷ ts) = IsOfValueType type t × AreOfValueTypes types ts
 
 -- the widths of tensors are those of their types
 pub typed_widths : (types : List ValueType) (ts : List TensorValue) → AreOfValueTypes types ts → map (λ t. t.width) ts ≡ map width_of types

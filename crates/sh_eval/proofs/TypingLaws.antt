@@ -1,5 +1,6 @@
 -- Values stay of their types from operation to operation.
-use Rattle.std.proofs.Common.{◌≡◌, ℕ, ◌+◌, Bool, true, false, List, [], ◌∷◌, ◌++◌, map, length, take, Option, Some, None, refl, ap, sym, ◌∙◌, subst, append_assoc}
+use Rattle.std.proofs.Common.{◌≡◌, ℕ, ◌+◌, Bool, true, false, List, [], ◌∷◌, ◌++◌, map, length, take, Option, Some, None, refl, ap, sym, ◌∙◌, arith, subst, append_assoc}
+use Rattle.std.proofs.lemmas.Bool.Decides.{nat_tests}
 use Rattle.std.proofs.lemmas.List.{length-append}
 use Rattle.std.proofs.lemmas.Option.{none-some, same_Some}
 use Rattle.std.specs.List.{list_all}
@@ -16,32 +17,36 @@ use Rattle.sh_ir.specs.declared.operations.OpKind.TheVariants.{Constant, Binary,
 use Rattle.sh_ir.specs.declared.operations.Return as declared_return
 use Rattle.sh_ir.specs.declared.shard_ops.Shard as declared_shard
 use Rattle.sh_ir.specs.declared.types.RawSharding as declared_sharding
+use Rattle.sh_ir.specs.declared.types.Dim.TheVariants.{Known}
 use Rattle.sh_ir.specs.declared.types.ValueType.{ValueType}
 use Rattle.sh_ir.specs.declared.types.ValueType.TheVariants as value_type
 use Rattle.sh_ir.specs.Classes.{class_of}
 use Rattle.sh_ir.specs.Formed.{ResultFits, is_spelled_type}
+use Rattle.sh_ir.specs.Limits.{has_few_cells}
 use Rattle.sh_ir.specs.Scope.{Scope, Value, is_defined, plain_value, scope_after, scope_of, value_named, value_of, values_after, with_args}
 use Rattle.sh_ir.specs.Typing.{are_of_types, is_of_type, typing_of}
 use Rattle.sh_ir.specs.Written.{written_by}
-use Rattle.sh_loops.proofs.InsideLaws.{both_left}
+use Rattle.sh_loops.proofs.InsideLaws.{both_left, both_right}
 use Rattle.sh_pieces.specs.Instructions.{value_under}
 use Rattle.sh_pieces.specs.Runs.{argument_under}
 use Rattle.sh_pieces.proofs.Names.{value_push}
 use Rattle.sh_sem.specs.Given.{alone, given, giving, have_all_extents}
 use Rattle.sh_sem.specs.Meaning.{Values, after_class, noted_in, value_in, with_own, with_value}
-use Rattle.sh_sem.specs.Types.{AreOfTypes, IsOfType}
+use Rattle.sh_sem.specs.Types.{AreOfTypes, IsOfType, have_extents}
 use Rattle.sh_tensor.specs.Tensor.{TensorValue}
 use Rattle.sh_turns.specs.Program.{all_there, there}
-use Rattle.sh_eval.specs.Sources.{HaveTypes, IsOfValueType, has_value}
-use Rattle.sh_eval.specs.VerifiedOps.{HasTensor, IsOfVerifiedOp}
+use Rattle.sh_eval.specs.Sources.{AreOfValueTypes, HaveTypes, IsOfValueType, has_value}
+use Rattle.sh_collectives.specs.VerifiedOps.{IsOfVerifiedOp}
+use Rattle.sh_eval.specs.VerifiedOps.{GivesTensor}
 use Rattle.sh_eval.specs.Evaluations.{kind_value}
 use Rattle.sh_eval.specs.Values.{shapes_of}
 use Rattle.sh_eval.proofs.EvaluationLaws.{default_value, given_apart}
-use Rattle.sh_eval.proofs.Evaluable.{op_by}
+use Rattle.sh_eval.proofs.Evaluable.{few_by_type, op_by}
 use Rattle.sh_eval.proofs.OperandLaws.{all_types, operands_there}
-use Rattle.sh_eval.proofs.ResultTypes.{result_typed}
-use Rattle.sh_eval.proofs.RuleFacts.{sound, spelled_value}
-use Rattle.sh_eval.proofs.TypeLaws.{AreOfValueTypes, named_as}
+use Rattle.sh_eval.proofs.ResultTypes.{result_typed_alone}
+use Rattle.sh_collectives.proofs.RuleLaws.{sound}
+use Rattle.sh_eval.proofs.RuleFacts.{source_op, spelled_value}
+use Rattle.sh_eval.proofs.TypeLaws.{named_as}
 
 -- ---- one value more
 
@@ -97,15 +102,15 @@ is_given op values t h = go (all_there (map values op.operands)) refl h
     go None e f = absurd (none-some t f)
     go (Some ts) e f = record { ts = ts; there_is = e; given_is = f }
 
-tensor_after : (scope : Scope) (op : Op) (values after : Values) → IsOfVerifiedOp scope op → HasTensor (class_of op.kind)
+tensor_after : (scope : Scope) (op : Op) (values after : Values) → scope.device ≡ None → IsOfVerifiedOp scope op → GivesTensor (class_of op.kind)
     → HaveTypes scope.values values → with_own op values (value_in op values) ≡ Some after
     → HaveTypes (scope_after scope op).values after
-tensor_after scope op values after v has have h =
+tensor_after scope op values after none v has have h =
     let own = has_own op values after (value_in op values) h in
     let g = is_given op values own.t own.is in
     let found = operands_there scope op values v has have in
     let same : found.ts ≡ g.ts = same_Some found.ts g.ts (sym found.there ∙ g.there_is) in
-    let typed = result_typed scope op g.ts v has (subst (AreOfValueTypes (all_types scope op)) same found.typed) own.t g.given_is in
+    let typed = result_typed_alone scope op g.ts none v has (subst (AreOfValueTypes (all_types scope op)) same found.typed) own.t g.given_is in
     subst (HaveTypes (scope_after scope op).values) own.after_is (own_after scope.values values have op op.defines own.t typed)
 
 -- ---- the others
@@ -184,96 +189,120 @@ not_of_source : false ≡ true → ⊥
 not_of_source h = cc
 
 kind_after : (scope : Scope) (kind : OpKind) (operands : List ℕ) (defines : Option ℕ) (result : ValueType) (place : Place)
-    (values after : Values) → IsOfVerifiedOp scope (op_by kind operands defines result place)
+    (values after : Values) → scope.device ≡ None → IsOfVerifiedOp scope (op_by kind operands defines result place)
     → HaveTypes scope.values values → after_class (class_of kind) (op_by kind operands defines result place) values ≡ Some after
     → HaveTypes (values_after scope.values (op_by kind operands defines result place)) after
-kind_after scope (Constant x) operands defines result place values after v have h =
-    tensor_after scope (op_by (Constant x) operands defines result place) values after v tt have h
-kind_after scope (Binary x) operands defines result place values after v have h =
-    tensor_after scope (op_by (Binary x) operands defines result place) values after v tt have h
-kind_after scope (Compare x) operands defines result place values after v have h =
-    tensor_after scope (op_by (Compare x) operands defines result place) values after v tt have h
-kind_after scope (Select x) operands defines result place values after v have h =
-    tensor_after scope (op_by (Select x) operands defines result place) values after v tt have h
-kind_after scope (Cast x) operands defines result place values after v have h =
-    tensor_after scope (op_by (Cast x) operands defines result place) values after v tt have h
-kind_after scope Empty operands defines result place values after v have h =
-    tensor_after scope (op_by (Empty) operands defines result place) values after v tt have h
-kind_after scope (ExtractSlice x) operands defines result place values after v have h =
-    tensor_after scope (op_by (ExtractSlice x) operands defines result place) values after v tt have h
-kind_after scope (InsertSlice x) operands defines result place values after v have h =
-    tensor_after scope (op_by (InsertSlice x) operands defines result place) values after v tt have h
-kind_after scope (CollapseShape x) operands defines result place values after v have h =
-    tensor_after scope (op_by (CollapseShape x) operands defines result place) values after v tt have h
-kind_after scope (ExpandShape x) operands defines result place values after v have h =
-    tensor_after scope (op_by (ExpandShape x) operands defines result place) values after v tt have h
-kind_after scope (Fill x) operands defines result place values after v have h =
-    tensor_after scope (op_by (Fill x) operands defines result place) values after v tt have h
-kind_after scope (Matmul x) operands defines result place values after v have h =
-    tensor_after scope (op_by (Matmul x) operands defines result place) values after v tt have h
-kind_after scope (BatchMatmul x) operands defines result place values after v have h =
-    tensor_after scope (op_by (BatchMatmul x) operands defines result place) values after v tt have h
-kind_after scope (Matvec x) operands defines result place values after v have h =
-    tensor_after scope (op_by (Matvec x) operands defines result place) values after v tt have h
-kind_after scope (Vecmat x) operands defines result place values after v have h =
-    tensor_after scope (op_by (Vecmat x) operands defines result place) values after v tt have h
-kind_after scope (Dot x) operands defines result place values after v have h =
-    tensor_after scope (op_by (Dot x) operands defines result place) values after v tt have h
-kind_after scope (Conv1d x) operands defines result place values after v have h =
-    tensor_after scope (op_by (Conv1d x) operands defines result place) values after v tt have h
-kind_after scope (Conv2d x) operands defines result place values after v have h =
-    tensor_after scope (op_by (Conv2d x) operands defines result place) values after v tt have h
-kind_after scope (Transpose x) operands defines result place values after v have h =
-    tensor_after scope (op_by (Transpose x) operands defines result place) values after v tt have h
-kind_after scope (Broadcast x) operands defines result place values after v have h =
-    tensor_after scope (op_by (Broadcast x) operands defines result place) values after v tt have h
-kind_after scope (Reduce x) operands defines result place values after v have h =
-    tensor_after scope (op_by (Reduce x) operands defines result place) values after v tt have h
-kind_after scope (Generic x) operands defines result place values after v have h =
-    tensor_after scope (op_by (Generic x) operands defines result place) values after v tt have h
-kind_after scope (Sharding x) operands defines result place values after v have h =
+kind_after scope (Constant x) operands defines result place values after none v have h =
+    tensor_after scope (op_by (Constant x) operands defines result place) values after none v tt have h
+kind_after scope (Binary x) operands defines result place values after none v have h =
+    tensor_after scope (op_by (Binary x) operands defines result place) values after none v tt have h
+kind_after scope (Compare x) operands defines result place values after none v have h =
+    tensor_after scope (op_by (Compare x) operands defines result place) values after none v tt have h
+kind_after scope (Select x) operands defines result place values after none v have h =
+    tensor_after scope (op_by (Select x) operands defines result place) values after none v tt have h
+kind_after scope (Cast x) operands defines result place values after none v have h =
+    tensor_after scope (op_by (Cast x) operands defines result place) values after none v tt have h
+kind_after scope Empty operands defines result place values after none v have h =
+    tensor_after scope (op_by (Empty) operands defines result place) values after none v tt have h
+kind_after scope (ExtractSlice x) operands defines result place values after none v have h =
+    tensor_after scope (op_by (ExtractSlice x) operands defines result place) values after none v tt have h
+kind_after scope (InsertSlice x) operands defines result place values after none v have h =
+    tensor_after scope (op_by (InsertSlice x) operands defines result place) values after none v tt have h
+kind_after scope (CollapseShape x) operands defines result place values after none v have h =
+    tensor_after scope (op_by (CollapseShape x) operands defines result place) values after none v tt have h
+kind_after scope (ExpandShape x) operands defines result place values after none v have h =
+    tensor_after scope (op_by (ExpandShape x) operands defines result place) values after none v tt have h
+kind_after scope (Fill x) operands defines result place values after none v have h =
+    tensor_after scope (op_by (Fill x) operands defines result place) values after none v tt have h
+kind_after scope (Matmul x) operands defines result place values after none v have h =
+    tensor_after scope (op_by (Matmul x) operands defines result place) values after none v tt have h
+kind_after scope (BatchMatmul x) operands defines result place values after none v have h =
+    tensor_after scope (op_by (BatchMatmul x) operands defines result place) values after none v tt have h
+kind_after scope (Matvec x) operands defines result place values after none v have h =
+    tensor_after scope (op_by (Matvec x) operands defines result place) values after none v tt have h
+kind_after scope (Vecmat x) operands defines result place values after none v have h =
+    tensor_after scope (op_by (Vecmat x) operands defines result place) values after none v tt have h
+kind_after scope (Dot x) operands defines result place values after none v have h =
+    tensor_after scope (op_by (Dot x) operands defines result place) values after none v tt have h
+kind_after scope (Conv1d x) operands defines result place values after none v have h =
+    tensor_after scope (op_by (Conv1d x) operands defines result place) values after none v tt have h
+kind_after scope (Conv2d x) operands defines result place values after none v have h =
+    tensor_after scope (op_by (Conv2d x) operands defines result place) values after none v tt have h
+kind_after scope (Transpose x) operands defines result place values after none v have h =
+    tensor_after scope (op_by (Transpose x) operands defines result place) values after none v tt have h
+kind_after scope (Broadcast x) operands defines result place values after none v have h =
+    tensor_after scope (op_by (Broadcast x) operands defines result place) values after none v tt have h
+kind_after scope (Reduce x) operands defines result place values after none v have h =
+    tensor_after scope (op_by (Reduce x) operands defines result place) values after none v tt have h
+kind_after scope (Generic x) operands defines result place values after none v have h =
+    tensor_after scope (op_by (Generic x) operands defines result place) values after none v tt have h
+kind_after scope (Sharding x) operands defines result place values after none v have h =
     sharding_after scope.values x defines result place operands values after v.result have h
-kind_after scope (Shard x) operands defines result place values after v have h =
+kind_after scope (Shard x) operands defines result place values after none v have h =
     note_after scope x defines result place operands values after v have h
-kind_after scope (AllGather x) operands defines result place values after v have h =
-    absurd (not_of_source (sound scope (op_by (AllGather x) operands defines result place) v).source)
-kind_after scope (AllSlice x) operands defines result place values after v have h =
-    absurd (not_of_source (sound scope (op_by (AllSlice x) operands defines result place) v).source)
-kind_after scope (AllReduce x) operands defines result place values after v have h =
-    absurd (not_of_source (sound scope (op_by (AllReduce x) operands defines result place) v).source)
-kind_after scope (ReduceScatter x) operands defines result place values after v have h =
-    absurd (not_of_source (sound scope (op_by (ReduceScatter x) operands defines result place) v).source)
-kind_after scope (AllToAll x) operands defines result place values after v have h =
-    absurd (not_of_source (sound scope (op_by (AllToAll x) operands defines result place) v).source)
-kind_after scope (Shift x) operands defines result place values after v have h =
-    absurd (not_of_source (sound scope (op_by (Shift x) operands defines result place) v).source)
-kind_after scope (UpdateHalo x) operands defines result place values after v have h =
-    absurd (not_of_source (sound scope (op_by (UpdateHalo x) operands defines result place) v).source)
-kind_after scope (Take x) operands defines result place values after v have h =
-    absurd (not_of_source (sound scope (op_by (Take x) operands defines result place) v).source)
-kind_after scope (Pad x) operands defines result place values after v have h =
-    absurd (not_of_source (sound scope (op_by (Pad x) operands defines result place) v).source)
-kind_after scope (Join x) operands defines result place values after v have h =
-    absurd (not_of_source (sound scope (op_by (Join x) operands defines result place) v).source)
-kind_after scope (Call x) operands defines result place values after v have h =
+kind_after scope (AllGather x) operands defines result place values after none v have h =
+    absurd (not_of_source (source_op scope (op_by (AllGather x) operands defines result place) none v).source)
+kind_after scope (AllSlice x) operands defines result place values after none v have h =
+    absurd (not_of_source (source_op scope (op_by (AllSlice x) operands defines result place) none v).source)
+kind_after scope (AllReduce x) operands defines result place values after none v have h =
+    absurd (not_of_source (source_op scope (op_by (AllReduce x) operands defines result place) none v).source)
+kind_after scope (ReduceScatter x) operands defines result place values after none v have h =
+    absurd (not_of_source (source_op scope (op_by (ReduceScatter x) operands defines result place) none v).source)
+kind_after scope (AllToAll x) operands defines result place values after none v have h =
+    absurd (not_of_source (source_op scope (op_by (AllToAll x) operands defines result place) none v).source)
+kind_after scope (Shift x) operands defines result place values after none v have h =
+    absurd (not_of_source (source_op scope (op_by (Shift x) operands defines result place) none v).source)
+kind_after scope (UpdateHalo x) operands defines result place values after none v have h =
+    absurd (not_of_source (source_op scope (op_by (UpdateHalo x) operands defines result place) none v).source)
+kind_after scope (Take x) operands defines result place values after none v have h =
+    absurd (not_of_source (source_op scope (op_by (Take x) operands defines result place) none v).source)
+kind_after scope (Pad x) operands defines result place values after none v have h =
+    absurd (not_of_source (source_op scope (op_by (Pad x) operands defines result place) none v).source)
+kind_after scope (Join x) operands defines result place values after none v have h =
+    absurd (not_of_source (source_op scope (op_by (Join x) operands defines result place) none v).source)
+kind_after scope (Call x) operands defines result place values after none v have h =
     absurd (call_after x operands defines result place values after h)
-kind_after scope (Return x) operands defines result place values after v have h =
+kind_after scope (Return x) operands defines result place values after none v have h =
     return_after scope.values x defines result place operands values after v.defines have h
 
 -- The values after an operation are of the types of the scope after it.
-pub typed_after : (scope : Scope) (op : Op) (values after : Values) → IsOfVerifiedOp scope op → HaveTypes scope.values values
+pub typed_after : (scope : Scope) (op : Op) (values after : Values) → scope.device ≡ None → IsOfVerifiedOp scope op → HaveTypes scope.values values
     → after_class (class_of op.kind) op values ≡ Some after
     → HaveTypes (scope_after scope op).values after
-typed_after scope op values after v have h = kind_after scope op.kind op.operands op.defines op.result op.place values after v have h
+typed_after scope op values after none v have h =
+    kind_after scope op.kind op.operands op.defines op.result op.place values after none v have h
 
 -- ---- arguments
 
-value_of_type : (type : ValueType) (t : TensorValue) → IsOfType type t → IsOfValueType type t
-value_of_type (value_type.Tensor type) t h = h
-value_of_type (value_type.Scalar w) t h = absurd h
-value_of_type value_type.Nothing t h = absurd h
-value_of_type value_type.Sharding t h = absurd h
-value_of_type value_type.Index t h = absurd h
+have_own : (shape : List ℕ) → have_extents (map (λ n. Known n) shape) shape ≡ true
+have_own [] = refl
+have_own (n ∷ shape) =
+    let here : nat_eq n n ≡ true = grind (arith, nat_tests) in
+    let rest = have_own shape in
+    rw (here, rest) refl
+
+-- a tensor of a type with few cells
+value_of_type : (type : ValueType) (t : TensorValue) → has_few_cells type ≡ true → IsOfType type t → IsOfValueType type t
+value_of_type (value_type.Tensor type) t few h = record {
+  extents = subst (λ dims. have_extents dims t.shape ≡ true) h.extents (have_own t.shape);
+  width = h.width;
+  whole = h.whole;
+  few = few_by_type (value_type.Tensor type) t.shape few h.extents;
+}
+value_of_type (value_type.Scalar w) t few h = absurd h
+value_of_type value_type.Nothing t few h = absurd h
+value_of_type value_type.Sharding t few h = absurd h
+value_of_type value_type.Index t few h = absurd h
+
+pub values_of_types : (types : List ValueType) (ts : List TensorValue) → list_all has_few_cells types ≡ true → AreOfTypes types ts
+    → AreOfValueTypes types ts
+values_of_types [] [] few h = tt
+values_of_types [] (t ∷ ts) few h = absurd h
+values_of_types (type ∷ types) [] few h = absurd h
+values_of_types (type ∷ types) (t ∷ ts) few h = (
+  value_of_type type t (both_left (has_few_cells type) (list_all has_few_cells types) few) h.0,
+  values_of_types types ts (both_right (has_few_cells type) (list_all has_few_cells types) few) h.1,
+)
 
 one_longer : {X Y : Type 0} (xs : List X) (ys : List Y) (x : X) (y : Y) → length xs ≡ length ys
     → length (xs ++ x ∷ []) ≡ length (ys ++ y ∷ [])
@@ -296,7 +325,7 @@ arg_more own names os arg t sizes is have name v e value =
     go false f = have name v f value
 
 args_from : (own : List Value) (names : List (Option ℕ)) (os : List (Option TensorValue)) (args : List Arg) (ts : List TensorValue)
-    → length names ≡ length os → AreOfTypes (map (λ a. a.value_type) args) ts
+    → length names ≡ length os → AreOfValueTypes (map (λ a. a.value_type) args) ts
     → HaveTypes own (value_under names os)
     → HaveTypes (with_args own args) (value_under (names ++ map (λ a. Some a.id) args) (os ++ there ts))
 args_from own names os [] [] sizes are have =
@@ -307,7 +336,7 @@ args_from own names os (arg ∷ args) [] sizes are have = absurd are
 args_from own names os (arg ∷ args) (t ∷ ts) sizes are have =
     let next : HaveTypes (plain_value arg.id arg.value_type ∷ own)
     (value_under (names ++ Some arg.id ∷ []) (os ++ Some t ∷ [])) = arg_more own names os arg t sizes
-    (value_of_type arg.value_type t are.0) have in
+    are.0 have in
     let rest = args_from (plain_value arg.id arg.value_type ∷ own) (names ++ Some arg.id ∷ []) (os ++ Some t ∷ []) args ts
     (one_longer names os (Some arg.id) (Some t) sizes) are.1 next in
     subst (λ ns. HaveTypes (with_args own (arg ∷ args)) (value_under ns (os ++ there (t ∷ ts))))
@@ -320,7 +349,7 @@ named_args [] = refl
 named_args (a ∷ args) = ap (λ ns. Some a.id ∷ ns) (named_args args)
 
 -- Arguments of the parameters' types are so in the scope at the start.
-pub args_typed : (m : Module) (f : Func) (arguments : List TensorValue) → AreOfTypes (map (λ a. a.value_type) f.args) arguments
+pub args_typed : (m : Module) (f : Func) (arguments : List TensorValue) → AreOfValueTypes (map (λ a. a.value_type) f.args) arguments
     → HaveTypes (scope_of m f).values (argument_under (map (λ a. a.id) f.args) arguments)
 args_typed m f arguments are =
     let none : HaveTypes [] (value_under [] []) = λ name v e value. absurd (none-some v e) in

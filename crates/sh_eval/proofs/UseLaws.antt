@@ -1,5 +1,5 @@
 -- What is still to be done depends on the values that are still used alone.
-use Rattle.std.proofs.Common.{◌≡◌, ℕ, zero, suc, ◌+◌, ◌==◌, ◌||◌, ◌&&◌, Bool, true, false, List, [], ◌∷◌, map, drop, length, get_or, ◌<◌, ◌≤◌, Option, Some, None, refl, ap, ap₂, sym, ◌∙◌, arith, subst, add-one}
+use Rattle.std.proofs.Common.{◌≡◌, ℕ, suc, ◌+◌, ◌==◌, ◌||◌, ◌&&◌, Bool, true, false, List, [], ◌∷◌, map, drop, length, get_or, ◌<◌, ◌≤◌, Option, Some, None, refl, ap, ap₂, sym, ◌∙◌, arith, subst, add-one}
 use Rattle.std.specs.List.{list_any}
 use Rattle.std.specs.Option.{option_map_or, option_or}
 use Rattle.std.specs.Prelude.{IfSome, if◌then◌else◌, option_and_then, option_map, slice_get}
@@ -14,7 +14,7 @@ use Rattle.sh_ir.specs.declared.operations.Op.{Op}
 use Rattle.sh_loops.proofs.InsideLaws.{equal_by}
 use Rattle.sh_pieces.specs.Instructions.{is_name}
 use Rattle.sh_sem.specs.Given.{alone, given}
-use Rattle.sh_sem.specs.Meaning.{StuckAt, Results, Values, after_class, noted_in, results_in, value_in, with_own, with_value}
+use Rattle.sh_sem.specs.Meaning.{StuckAt, Results, Values, after_class, noted_in, value_in, with_own}
 use Rattle.sh_tensor.specs.Tensor.{TensorValue}
 use Rattle.sh_turns.specs.Program.{all_there}
 use Rattle.sh_eval.specs.Evaluations.{CanEvaluate}

@@ -1,12 +1,12 @@
 -- Element operations: operands of one shape have the value that a formula gives, and others none.
-use Rattle.std.proofs.Common.{◌≡◌, ℕ, suc, ◌<◌, Bool, true, false, List, [], ◌∷◌, map, length, get_or, Option, Some, None, refl, ap, ap₂, sym, ◌∙◌, arith, subst}
+use Rattle.std.proofs.Common.{◌≡◌, ℕ, suc, Bool, true, false, List, [], ◌∷◌, map, length, get_or, Some, None, refl, ap, ap₂, sym, ◌∙◌, arith}
 use Rattle.std.specs.Prelude.{◌&&◌, nat_eq, option_and_then, if◌then◌else◌}
 use Rattle.std.specs.Cmp.Lexicographic.{pointwise}
 use Rattle.std.proofs.lemmas.Slice.Eq.{bytes_eq-Decides}
 use Rattle.sh_base.specs.declared.numbers.Width.{Width}
 use Rattle.sh_tensor.specs.Tensor.{TensorValue}
 use Rattle.sh_loops.specs.declared.formulas.Formula as declared
-use Rattle.sh_loops.specs.Formulas.{WorksOn, CanApply, formula_of, formula_value, operand_width, result_width}
+use Rattle.sh_loops.specs.Formulas.{formula_of, formula_value, result_width}
 use Rattle.sh_loops.specs.Structured.{value_by, widths_of}
 use Rattle.sh_sem.specs.Given.{built_of, gives_cells}
 

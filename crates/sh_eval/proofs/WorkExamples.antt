@@ -1,5 +1,5 @@
 -- The outcome of small functions, by computation.
-use Rattle.std.proofs.Common.{◌≡◌, ℕ, suc, Bool, true, false, List, [], ◌∷◌, map, length, Some, None, refl}
+use Rattle.std.proofs.Common.{◌≡◌, ℕ, false, List, [], ◌∷◌, map, length, Some, None, refl}
 use Rattle.sh_base.specs.declared.numbers.Cell.TheVariants.{Val}
 use Rattle.sh_base.specs.declared.numbers.Width.TheVariants.{I32}
 use Rattle.sh_base.specs.declared.operations.BinOp.{BinOp}
@@ -16,7 +16,7 @@ use Rattle.sh_ir.specs.Loops.{structure_of}
 use Rattle.sh_ir.specs.Typing.{typing_of}
 use Rattle.sh_int.specs.Elements.{element_of}
 use Rattle.sh_sem.specs.Given.{alone, built_of, cell_given, given, gives_cells, gives_nest, giving, shape_given}
-use Rattle.sh_sem.specs.Meaning.{Results, StuckAt, Values}
+use Rattle.sh_sem.specs.Meaning.{Results, StuckAt}
 use Rattle.sh_sem.specs.Scalars.{formula_cell}
 use Rattle.sh_tensor.specs.Tensor.{TensorValue, at, cells_of}
 use Rattle.sh_eval.specs.Reached.{values_at_start}

@@ -1,5 +1,5 @@
 -- What the work of an operation comes to, and whether it passes the limit.
-use Rattle.std.proofs.Common.{◌≡◌, ℕ, suc, ◌+◌, ◌-◌, ◌<◌, ◌≤◌, Bool, true, false, List, [], ◌∷◌, map, Option, Some, None, refl, ap, ap₂, sym, ◌∙◌, arith, subst, inl, inr}
+use Rattle.std.proofs.Common.{◌≡◌, ℕ, ◌+◌, ◌-◌, ◌<◌, ◌≤◌, Bool, true, false, List, map, Option, Some, None, refl, ap, ap₂, sym, ◌∙◌, arith, subst, inl, inr}
 use Rattle.std.specs.Prelude.{◌⊎◌, ◌||◌, IfSome, max, nat_lt, option_map, option_and_then, if◌then◌else◌}
 use Rattle.std.specs.Option.{option_map_or}
 use Rattle.std.proofs.lemmas.Option.{none-some, same_Some}
@@ -21,7 +21,7 @@ use Rattle.sh_eval.specs.Functions.{CanStep, HasNone, IsDone, IsStuck, IsReached
 use Rattle.sh_eval.specs.Sizes.{sized}
 use Rattle.sh_eval.specs.Values.{IsFew, shapes_of}
 use Rattle.sh_eval.specs.VerifiedOps.{HasTensor}
-use Rattle.sh_eval.specs.Work.{Load, has_work, load_given, load_in, load_of, loop_points, max_work, no_load, passes, work_of}
+use Rattle.sh_eval.specs.Work.{Load, has_work, load_given, load_in, load_of, max_work, no_load, passes, work_of}
 use Rattle.sh_eval.specs.declared.steps.Reached.{Reached}
 use Rattle.sh_eval.proofs.EvaluationLaws.{default_gives}
 use Rattle.sh_eval.proofs.SizeRules.{is_sized, not_sized}

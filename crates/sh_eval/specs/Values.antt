@@ -1,6 +1,6 @@
 -- What an operation gives, apart: the shape by its kind, the extents that its type knows, and the
 -- cells.
-use Rattle.std.specs.Prelude.{◌≤◌, ℕ, List, map, max, Option, option_and_then, option_map, IfSome}
+use Rattle.std.specs.Prelude.{◌≤◌, ℕ, List, map, max, Option, option_and_then, IfSome}
 use Rattle.sh_base.specs.Shape.{cell_count, max_cells}
 use Rattle.sh_base.specs.declared.numbers.Width.{Width}
 use Rattle.sh_ir.specs.declared.types.Dim.{Dim}

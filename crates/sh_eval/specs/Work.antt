@@ -1,5 +1,5 @@
 -- The work of evaluating a function, its limit, and how an evaluation ends under it.
-use Rattle.std.specs.Prelude.{◌≡◌, ◌<◌, ℕ, zero, suc, ◌+◌, Bool, true, false, ◌||◌, List, [], ◌∷◌, map, max, nat_lt, slice_get, Option, Some, None, if◌then◌else◌}
+use Rattle.std.specs.Prelude.{◌≡◌, ◌<◌, ℕ, zero, suc, ◌+◌, Bool, true, false, ◌||◌, List, [], ◌∷◌, map, max, nat_lt, slice_get, Some, None, if◌then◌else◌}
 use Rattle.std.specs.Option.{option_map_or}
 use Rattle.sh_base.specs.Shape.{cell_count, max_cells}
 use Rattle.sh_ir.specs.Classes.{class_of}

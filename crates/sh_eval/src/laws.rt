@@ -8,7 +8,7 @@ ghost use Rattle.sh_tensor.specs.Tensor.{TensorValue};
 ghost use Rattle.sh_turns.specs.Program.{all_there};
 ghost use Rattle.sh_eval.specs.Evaluations.{CanEvaluate};
 ghost use Rattle.sh_eval.specs.Reached.{IsReachedOp};
-ghost use Rattle.sh_eval.specs.Sources.{IsOfValueType};
+ghost use Rattle.sh_eval.specs.Sources.{IsOfSourceType};
 ghost use Rattle.sh_eval.specs.VerifiedOps.{HasTensor};
 
 /// Of a function in source form of a module that keeps the limits and the rules, on arguments of its
@@ -24,5 +24,5 @@ pub fn can_evaluate_laws()
     ensures typed { (f : Func) (arguments : List TensorValue) (op : Op) (values : Values)
         (ts : List TensorValue) (t : TensorValue) → IsReachedOp f arguments op values
         → all_there (map values op.operands) ≡ Some ts → given op alone ts ≡ Some t
-        → IsOfValueType op.result t }
+        → IsOfSourceType op.result t }
 {}

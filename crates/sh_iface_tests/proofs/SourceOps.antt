@@ -1,5 +1,5 @@
 -- Each operation of a source function of a verified module is one that an interface may be asked of.
-use Rattle.std.proofs.Common.{◌≡◌, ℕ, Bool, true, List, [], ◌∷◌, ◌++◌, map, Option, Some, None, refl, subst}
+use Rattle.std.proofs.Common.{◌≡◌, ℕ, Bool, true, List, [], ◌∷◌, ◌++◌, map, Option, Some, None, refl, ◌∙◌, subst}
 use Rattle.std.specs.List.{AllByRecursion, list_all}
 use Rattle.std.specs.Option.{option_map_or}
 use Rattle.std.specs.Prelude.{MatchOption, ⊤, flat_map, not, option_to_list, slice_get, take}
@@ -14,9 +14,10 @@ use Rattle.sh_ir.specs.Written.{Written, written_by}
 use Rattle.sh_ir.proofs.KeptLaws.{scope_behind}
 use Rattle.sh_loops.proofs.InsideLaws.{both_left}
 use Rattle.sh_eval.specs.Sources.{IsOfSource}
-use Rattle.sh_eval.specs.VerifiedOps.{IsBody}
-use Rattle.sh_eval.proofs.MemberLaws.{at_place, each_chosen, each_list, each_mapped, of_back, of_test, to_test}
-use Rattle.sh_eval.proofs.SourceOps.{source_op}
+use Rattle.sh_collectives.specs.VerifiedOps.{IsBody}
+use Rattle.sh_collectives.proofs.MemberLaws.{at_place, each_chosen, each_list, each_mapped, of_back, of_test, to_test}
+use Rattle.sh_collectives.proofs.VerifiedLaws.{device_behind}
+use Rattle.sh_eval.proofs.SourceOps.{op_there, source_scope}
 use Rattle.sh_iface.specs.Verified.{IsOfVerified}
 
 -- ---- the names of regions
@@ -64,10 +65,10 @@ blocks (Some body) h = h.block
 
 pub verified_op : (f : Func) → IsOfSource f → (k : ℕ) (op : Op) → slice_get f.ops k ≡ Some op → IsOfVerified op
 verified_op f h k op e =
-    let is = source_op f h k op e in
+    let is = op_there f h k op e in
     record {
       scope = scope_behind (scope_of h.whole f) (take k f.ops);
-      source = is.source;
+      source = device_behind (scope_of h.whole f) (take k f.ops) ∙ source_scope f h;
       keeps = is.keeps;
       counted = is.counted;
       captures = is.captures;

@@ -10,3 +10,4 @@ pub mod NextLaws
 pub mod AfterLaws
 pub mod WorldLaws
 pub mod AnswerLaws
+pub mod RunnableLaws

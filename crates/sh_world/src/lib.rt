@@ -13,6 +13,6 @@ mod steps;
 mod turning;
 mod worlds;
 
-pub use laws::world_laws;
+pub use laws::{runnable_laws, world_laws};
 pub use steps::LocalSteps;
 pub use worlds::{Tensors, World};

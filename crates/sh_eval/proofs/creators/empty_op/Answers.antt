@@ -1,7 +1,6 @@
-use Rattle.std.proofs.Common.{◌≡◌, None, Some, map, ap, sym, ◌∙◌}
+use Rattle.std.proofs.Common.{map, ap, sym, ◌∙◌}
 use Rattle.std.specs.Prelude.{option_map}
 use Rattle.std.proofs.lemmas.Result.{IfOk-weaker}
-use Rattle.sh_ir.specs.Agreement.{dims_of}
 use Rattle.sh_eval.specs.Cuts.{cut_shape}
 use Rattle.sh_eval.proofs.KindLaws.{undefined_cells, undefined_shape, undefined_some, is_there, not_there}
 use Rattle.sh_eval.proofs.LayoutLaws.{creator_none, creator_value, few_of_rule, no_value, no_values, values_long}

@@ -1,9 +1,8 @@
-use Rattle.std.proofs.Common.{map, get_or, ap, ap₂, sym, ◌∙◌}
-use Rattle.sh_ir.specs.Numbers.{as_naturals}
+use Rattle.std.proofs.Common.{map, get_or, ap, sym, ◌∙◌}
 use Rattle.sh_eval.proofs.KindLaws.{piece_alone}
 use Rattle.sh_eval.proofs.LayoutLaws.{no_value, one_value, values_long}
 use Rattle.sh_sem.specs.Given.{gives_piece}
-use Rattle.sh_sem.specs.Pieces.{equal_piece, listed_piece}
+use Rattle.sh_sem.specs.Pieces.{equal_piece}
 use Rattle.sh_eval.proofs.evaluation.equal_piece_op.Goals as goal
 
 pub returns-then-ts-ne1 : goal.returns-then-ts-ne1

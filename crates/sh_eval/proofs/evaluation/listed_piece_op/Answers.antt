@@ -3,7 +3,7 @@ use Rattle.sh_ir.specs.Numbers.{as_naturals}
 use Rattle.sh_eval.proofs.KindLaws.{piece_alone}
 use Rattle.sh_eval.proofs.LayoutLaws.{no_value, one_value, values_long}
 use Rattle.sh_sem.specs.Given.{gives_piece}
-use Rattle.sh_sem.specs.Pieces.{equal_piece, listed_piece}
+use Rattle.sh_sem.specs.Pieces.{listed_piece}
 use Rattle.sh_eval.proofs.evaluation.listed_piece_op.Goals as goal
 
 pub returns-then-ts-ne1 : goal.returns-then-ts-ne1

@@ -1,4 +1,4 @@
-use Rattle.std.proofs.Common.{◌≡◌, map, ap, sym, ◌∙◌}
+use Rattle.std.proofs.Common.{map, ap, ◌∙◌}
 use Rattle.std.proofs.lemmas.Result.{IfOk-weaker}
 use Rattle.sh_ir.specs.Classes.{class_of}
 use Rattle.sh_sem.specs.Given.{alone, gives_collapse, gives_constant, gives_expansion, gives_insertion, gives_slice, gives_undefined}

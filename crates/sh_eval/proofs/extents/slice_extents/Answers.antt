@@ -1,15 +1,10 @@
-use Rattle.std.proofs.Common.{◌≡◌, false, true, refl, Some, map, ap, ap₂, sym, ◌∙◌}
-use Rattle.std.specs.Prelude.{nat_eq, option_map}
-use Rattle.std.specs.Cmp.Lexicographic.{pointwise}
+use Rattle.std.proofs.Common.{false, true, Some, map, ap, ap₂, sym, ◌∙◌}
+use Rattle.std.specs.Prelude.{option_map}
 use Rattle.std.specs.List.{list_all}
-use Rattle.std.proofs.lemmas.Result.{IfOk-weaker}
 use Rattle.sh_eval.specs.Cuts.{cut_shape}
 use Rattle.sh_eval.specs.Slices.{ranges_in}
 use Rattle.sh_eval.proofs.KindLaws.{extract_alone, extract_shape}
-use Rattle.sh_eval.proofs.LayoutLaws.{no_values, one_value, two_values, values_long}
-use Rattle.sh_ir.specs.Agreement.{dims_of}
-use Rattle.sh_sem.specs.Given.{known_shape}
-use Rattle.sh_sem.specs.Reshapes.{collapsed_shape, expanded_shape}
+use Rattle.sh_eval.proofs.LayoutLaws.{one_value, values_long}
 use Rattle.sh_sem.specs.Slices.{lies_within, ranges_of, sizes_of}
 use Rattle.sh_eval.proofs.extents.slice_extents.Goals as goal
 

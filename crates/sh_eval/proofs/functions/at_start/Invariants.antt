@@ -1,4 +1,4 @@
-use Rattle.std.proofs.Common.{◌≡◌, ◌≤◌, map, take, length}
+use Rattle.std.proofs.Common.{◌≡◌, map, take}
 use Rattle.sh_eval.specs.Stores.{values_in}
 use Rattle.sh_pieces.specs.Runs.{argument_under}
 use Rattle.sh_eval.proofs.functions.at_start.Given as goal

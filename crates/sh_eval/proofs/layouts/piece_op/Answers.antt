@@ -1,9 +1,9 @@
-use Rattle.std.proofs.Common.{◌≡◌, false, true, List, ℕ, Some, None, map, ap, ap₂, sym, ◌∙◌}
+use Rattle.std.proofs.Common.{Some, None, map, ap, sym, ◌∙◌}
 use Rattle.std.specs.Prelude.{option_map}
 use Rattle.std.proofs.lemmas.Result.{IfOk-weaker}
 use Rattle.sh_eval.specs.Cuts.{cut_shape}
 use Rattle.sh_eval.specs.Rules.{rule_cell}
-use Rattle.sh_eval.proofs.LayoutLaws.{few_of_rule, no_value, one_value, two_values, value_of_rule, values_long}
+use Rattle.sh_eval.proofs.LayoutLaws.{few_of_rule, no_value, value_of_rule}
 use Rattle.std.proofs.Common.{set}
 use Rattle.sh_eval.specs.Values.{piece_in}
 use Rattle.sh_eval.specs.declared.rules.CellRule.TheVariants.{Moved}

@@ -1,7 +1,7 @@
 use Rattle.std.proofs.Common.{◌≡◌, ◌-◌, ◌<◌, map, ap, sym, ◌∙◌, arith, length, get_or, refl, set, subst}
 use Rattle.std.proofs.lemmas.List.{length-map, get_or-map}
 use Rattle.sh_base.specs.Cells.{IsCellOf}
-use Rattle.sh_tensor.specs.Tensor.{TensorValue, at, extent}
+use Rattle.sh_tensor.specs.Tensor.{TensorValue, at}
 use Rattle.sh_eval.proofs.IndexRules.{all_at, joined_here, joined_next, kept_place}
 use Rattle.sh_eval.proofs.pieces.joined.Goals as goal
 

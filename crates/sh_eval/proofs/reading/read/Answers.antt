@@ -1,5 +1,5 @@
-use Rattle.std.proofs.Common.{◌≡◌, ◌≤◌, List, ap, sym, ◌∙◌, length, arith}
-use Rattle.sh_base.specs.Shape.{cell_count, max_cells}
+use Rattle.std.proofs.Common.{◌≤◌, List, ap, ◌∙◌, length, arith}
+use Rattle.sh_base.specs.Shape.{max_cells}
 use Rattle.sh_base.specs.declared.numbers.Cell.{Cell}
 use Rattle.sh_eval.proofs.CutLaws.{read_exact, read_of_cut}
 use Rattle.std.proofs.Common.{get_or}

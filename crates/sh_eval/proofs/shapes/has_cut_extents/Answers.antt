@@ -1,4 +1,4 @@
-use Rattle.std.proofs.Common.{◌≡◌, ◌+◌, ◌≤◌, length, ap, sym, ◌∙◌, drop, arith}
+use Rattle.std.proofs.Common.{◌+◌, ap, sym, ◌∙◌, drop, arith}
 use Rattle.std.specs.Prelude.{◌&&◌}
 use Rattle.sh_sem.specs.Types.{have_extents}
 use Rattle.sh_eval.proofs.ListRules.{end_extents, length_of_cut, next_cut, other_lengths}

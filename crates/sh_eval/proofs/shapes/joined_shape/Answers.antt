@@ -1,5 +1,5 @@
 use Rattle.std.proofs.Common.{Some, map, set, ap, ap₂, sym, ◌∙◌, true}
-use Rattle.std.specs.Prelude.{option_map, None, if◌then◌else◌}
+use Rattle.std.specs.Prelude.{option_map}
 use Rattle.sh_eval.specs.Cuts.{cut_shape}
 use Rattle.sh_eval.proofs.ListRules.{joined_is, set_cut_extent}
 use Rattle.sh_sem.specs.Pieces.{total_extent}

@@ -1,4 +1,4 @@
-use Rattle.std.proofs.Common.{◌≡◌, ◌∷◌, [], true, false, map, sym, ◌∙◌}
+use Rattle.std.proofs.Common.{◌∷◌, [], map, ◌∙◌}
 use Rattle.std.proofs.lemmas.Result.{IfOk-weaker}
 use Rattle.sh_loops.specs.Formulas.{operand_width}
 use Rattle.sh_eval.proofs.LayoutLaws.{one_value}

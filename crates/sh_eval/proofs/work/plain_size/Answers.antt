@@ -1,4 +1,4 @@
-use Rattle.std.proofs.Common.{◌≡◌, None, Some, map, ap, subst, sym, ◌∙◌, inl, inr}
+use Rattle.std.proofs.Common.{map, ap, subst, sym, ◌∙◌, inl, inr}
 use Rattle.std.specs.Prelude.{IfSome, option_map}
 use Rattle.sh_eval.specs.Cuts.{cut_shape}
 use Rattle.sh_eval.specs.Values.{IsFew}

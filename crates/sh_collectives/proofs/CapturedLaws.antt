@@ -1,11 +1,11 @@
--- The values of a function that a region uses are scalars of the scope.
-use Rattle.std.proofs.Common.{◌≡◌, ℕ, zero, suc, ◌+◌, Bool, true, false, List, [], ◌∷◌, ◌++◌, map, length, take, drop, Option, Some, None, refl, ap, sym, ◌∙◌, arith, subst, inl, inr}
+-- The values of a function that a region uses are constants of the scope.
+use Rattle.std.proofs.Common.{◌≡◌, ℕ, zero, suc, ◌+◌, Bool, true, false, List, [], ◌∷◌, ◌++◌, length, take, drop, Option, Some, None, refl, ap, sym, ◌∙◌, arith, subst, inl, inr}
 use Rattle.std.proofs.lemmas.Bool.{cases_Bool}
 use Rattle.std.proofs.lemmas.Bool.Decides.{nat_tests}
 use Rattle.std.proofs.lemmas.List.{take-append-drop}
 use Rattle.std.specs.List.{AllByRecursion, list_all}
 use Rattle.std.specs.Option.{option_map_or}
-use Rattle.std.specs.Prelude.{◌&&◌, ◌||◌, IsSomeAnd, MatchOption, ⊤, filter, if◌then◌else◌, is_some, nat_eq, not}
+use Rattle.std.specs.Prelude.{◌&&◌, ◌||◌, MatchOption, ⊤, filter, if◌then◌else◌, is_some, nat_eq, not}
 use Rattle.sh_base.specs.declared.numbers.Width.{Width}
 use Rattle.sh_base.specs.declared.places.Refusal.{Refusal}
 use Rattle.sh_base.specs.declared.rules.Rule.TheVariants.{V1}
@@ -18,19 +18,16 @@ use Rattle.sh_ir.specs.declared.operations.OpKind.{OpKind}
 use Rattle.sh_ir.specs.declared.types.ValueType.{ValueType}
 use Rattle.sh_ir.specs.declared.types.ValueType.TheVariants as value_type
 use Rattle.sh_ir.specs.Agreement.{same_type}
-use Rattle.sh_ir.specs.Formed.{Captures, OperandsFit, captured_in, is_scalar}
+use Rattle.sh_ir.specs.Formed.{Captures, OperandsFit, captured_in}
 use Rattle.sh_ir.specs.RegionRules.{are_typed, block_of, body_typing, is_scalar_op, is_there, is_typed, keeps_at_yield, keeps_in_region, own_after, region_fits, stand_for, stands_for, with_block}
 use Rattle.sh_ir.specs.Regions.{captured_by, first_occurrences, is_among, outer_uses, outside}
 use Rattle.sh_ir.specs.Rules.{body_faults, faults_at, has_region_in_order, loop_count, loop_operands, region_faults}
 use Rattle.sh_ir.specs.Scope.{Scope, Value, plain_value, value_named}
 use Rattle.sh_ir.specs.Written.{Written, written_by, written_in_body}
 use Rattle.sh_ir.proofs.KeptLaws.{kept_inside, left_empty, right_empty}
-use Rattle.sh_loops.proofs.InsideLaws.{both_left, both_right}
-use Rattle.sh_sem.specs.Meaning.{Values}
-use Rattle.sh_eval.specs.Sources.{HaveTypes, IsOfValueType, has_value}
-use Rattle.sh_eval.specs.VerifiedOps.{HaveScalarConstants, IsBody, IsBodyOp, IsOfVerifiedOp}
-use Rattle.sh_eval.proofs.RuleFacts.{neither_left, neither_right, sound}
-use Rattle.sh_eval.proofs.TypeLaws.{AreNamed}
+use Rattle.sh_sharding.proofs.Cases.{and_left, and_right}
+use Rattle.sh_collectives.specs.VerifiedOps.{IsBody, IsBodyOp, IsOfVerifiedOp}
+use Rattle.sh_collectives.proofs.RuleLaws.{neither_left, neither_right, sound}
 
 -- ---- lists of faults
 
@@ -43,23 +40,23 @@ no_fault false r e = absurd (cc)
 pub all_joined : {X : Type 0} (p : X → Bool) (xs ys : List X) → list_all p xs ≡ true → list_all p ys ≡ true → list_all p (xs ++ ys) ≡ true
 all_joined p [] ys h k = k
 all_joined p (x ∷ xs) ys h k =
-    let here = both_left (p x) (list_all p xs) h in
-    let rest = all_joined p xs ys (both_right (p x) (list_all p xs) h) k in
+    let here = and_left (p x) (list_all p xs) h in
+    let rest = all_joined p xs ys (and_right (p x) (list_all p xs) h) k in
     rw (here, rest) refl
 
 pub all_filtered : {X : Type 0} (p q : X → Bool) (xs : List X) → list_all p xs ≡ true → list_all p (filter q xs) ≡ true
 all_filtered p q [] h = refl
 all_filtered p q (x ∷ xs) h =
-    let here = both_left (p x) (list_all p xs) h in
-    let rest = all_filtered p q xs (both_right (p x) (list_all p xs) h) in
+    let here = and_left (p x) (list_all p xs) h in
+    let rest = all_filtered p q xs (and_right (p x) (list_all p xs) h) in
     elim (cases_Bool (q x)) [ inl b ↦ rw b (rw (here, rest) refl) | inr b ↦ rw b rest ]
 
 all_firsts : (p : ℕ → Bool) (names : List ℕ) → list_all p names ≡ true → list_all p (first_occurrences names) ≡ true
 all_firsts p [] h = refl
 all_firsts p (n ∷ names) h =
-    let here = both_left (p n) (list_all p names) h in
+    let here = and_left (p n) (list_all p names) h in
     let rest = all_filtered p (λ other. not (nat_eq n other)) (first_occurrences names)
-    (all_firsts p names (both_right (p n) (list_all p names) h)) in
+    (all_firsts p names (and_right (p n) (list_all p names) h)) in
     rw (here, rest) refl
 
 -- ---- a name that a region uses and doesn't define
@@ -73,7 +70,7 @@ usable_by : (own outer : Option Value) (t : ValueType) → own ≡ None → (is_
     → option_map_or (λ v. v.is_constant) outer false ≡ true
 usable_by (Some v) outer t none there stands = absurd (cc)
 usable_by None None t none there stands = absurd (cc)
-usable_by None (Some v) t none there stands = both_left v.is_constant (same_type v.value_type t) stands
+usable_by None (Some v) t none there stands = and_left v.is_constant (same_type v.value_type t) stands
 
 -- the values are those of these names
 abbrev AreOf : List ℕ → List Value → Type 0
@@ -90,15 +87,15 @@ module _ (outer : List Value) where
   outside_usable own known (t ∷ types) (n ∷ names) are long there stand =
       let shorter : length names ≡ length types = let all : suc (length names) ≡ suc (length types) = long in omega (arith, all) in
       let rest = outside_usable own known types names are shorter
-      (both_right (is_there outer own n) (list_all (is_there outer own) names) there)
-      (both_right (stands_for outer own t n) (stand_for outer own types names) stand) in
+      (and_right (is_there outer own n) (list_all (is_there outer own) names) there)
+      (and_right (stands_for outer own t n) (stand_for outer own types names) stand) in
       elim (cases_Bool (is_among known n)) [
         | inl b ↦ rw b rest
         | inr b ↦
             let here : is_usable outer n ≡ true =
             usable_by (value_named own n) (value_named outer n) t (are n b)
-            (both_left (is_there outer own n) (list_all (is_there outer own) names) there)
-            (both_left (stands_for outer own t n) (stand_for outer own types names) stand) in
+            (and_left (is_there outer own n) (list_all (is_there outer own) names) there)
+            (and_left (stands_for outer own t n) (stand_for outer own types names) stand) in
             rw b (rw (here, rest) refl)
       ]
 
@@ -156,18 +153,18 @@ uses_usable loops outer own known (op ∷ ops) body w are kept typed formed =
     (body_faults (V1 ∷ []) loops outer (own_after own op) ops body) kept in
     let rest = right_empty (faults_at op.place (V1 ∷ []) (λ rule. keeps_in_region rule loops outer own op))
     (body_faults (V1 ∷ []) loops outer (own_after own op) ops body) kept in
-    let typed_here = both_left (is_typed outer own op) (are_typed outer (own_after own op) ops body.yields w) typed in
+    let typed_here = and_left (is_typed outer own op) (are_typed outer (own_after own op) ops body.yields w) typed in
     all_joined (is_usable outer) (outside known op.operands) (outer_uses (op.defines ∷ known) ops body.yields)
     (outside_usable outer own known (body_typing op.kind op.result) op.operands are
     (body_arity op.kind op.operands op.result formed.0.counted) (there_in_region loops outer own op _ here)
-    (both_right (is_scalar_op op.kind op.result) (stand_for outer own (body_typing op.kind op.result) op.operands) typed_here))
+    (and_right (is_scalar_op op.kind op.result) (stand_for outer own (body_typing op.kind op.result) op.operands) typed_here))
     (uses_usable loops outer (own_after own op) (op.defines ∷ known) ops body w (are_after outer known own op.defines op.result are) rest
-    (both_right (is_typed outer own op) (are_typed outer (own_after own op) ops body.yields w) typed) formed.1)
+    (and_right (is_typed outer own op) (are_typed outer (own_after own op) ops body.yields w) typed) formed.1)
 
 region_typed : (outer : List Value) (operands : List ValueType) (body : Body) → region_fits outer operands body ≡ true
     → are_typed outer (block_of body) body.ops body.yields body.width ≡ true
 unfolding region_fits
-region_typed outer operands body h = both_right _ _ (both_right _ _ h)
+region_typed outer operands body h = and_right _ _ (and_right _ _ h)
 
 -- ---- of an operation
 
@@ -188,50 +185,6 @@ pub captured_usable : (scope : Scope) (op : Op) → IsOfVerifiedOp scope op
 unfolding region_faults has_region_in_order
 captured_usable scope op v =
     captured_by_body scope op.kind (written_by op.kind).body (kept_inside V1 scope op (v.keeps V1)) (sound scope op v).region v.body
-
--- the type of the value that a name stands for
-abbrev pub type_named : List Value → ℕ → ValueType
-type_named scope name = option_map_or (λ v. v.value_type) (value_named scope name) value_type.Nothing
-
--- the types of the values that a region uses
-abbrev pub captured_types : List Value → OpKind → List ValueType
-captured_types scope kind = map (type_named scope) (captured_in (written_by kind))
-
-pub scalar_value : (t : ValueType) → is_scalar t ≡ true → has_value t ≡ true
-scalar_value (value_type.Scalar w) h = refl
-scalar_value (value_type.Tensor t) h = absurd (cc)
-scalar_value value_type.Nothing h = absurd (cc)
-scalar_value value_type.Sharding h = absurd (cc)
-scalar_value value_type.Index h = absurd (cc)
-
-module _ (scope : List Value) (constants : HaveScalarConstants scope) where
-  usable_scalar : (n : ℕ) (o : Option Value) → value_named scope n ≡ o → option_map_or (λ v. v.is_constant) o false ≡ true
-      → is_scalar (option_map_or (λ v. v.value_type) o value_type.Nothing) ≡ true
-  usable_scalar n None e h = absurd (cc)
-  usable_scalar n (Some v) e h = constants n v e h
-
-  -- and are scalars
-  pub usable_scalars : (names : List ℕ) → list_all (is_usable scope) names ≡ true → list_all is_scalar (map (type_named scope) names) ≡ true
-  usable_scalars [] h = refl
-  usable_scalars (n ∷ names) h =
-      let here = usable_scalar n (value_named scope n) refl (both_left (is_usable scope n) (list_all (is_usable scope) names) h) in
-      let rest = usable_scalars names (both_right (is_usable scope n) (list_all (is_usable scope) names) h) in
-      rw (here, rest) refl
-
-module _ (scope : List Value) (values : Values) (have : HaveTypes scope values) (constants : HaveScalarConstants scope) where
-  usable_here : (n : ℕ) (o : Option Value) → value_named scope n ≡ o → option_map_or (λ v. v.is_constant) o false ≡ true
-      → IsSomeAnd (values n) (IsOfValueType (option_map_or (λ v. v.value_type) o value_type.Nothing))
-  usable_here n None e h = absurd (cc)
-  usable_here n (Some v) e h = have n v e (scalar_value v.value_type (constants n v e h))
-
-  -- their values are there, each of its type
-  pub usable_named : (names : List ℕ) → list_all (is_usable scope) names ≡ true → AreNamed values (map (type_named scope) names) names
-  usable_named [] h = tt
-  usable_named (n ∷ names) h = (
-    usable_here n (value_named scope n) refl (both_left (is_usable scope n) (list_all (is_usable scope) names) h),
-    usable_named names
-        (both_right (is_usable scope n) (list_all (is_usable scope) names) h),
-  )
 
 -- ---- operands, as they are written and captured
 

@@ -3,11 +3,11 @@ use Rattle.std.proofs.Common.{◌≡◌, ℕ, zero, suc, Bool, true, List, [], �
 use Rattle.std.specs.Prelude.{MatchOption, ⊤, flat_map, filter_map, slice_get}
 use Rattle.std.proofs.lemmas.Option.{none-some, same_Some}
 use Rattle.std.specs.List.{AllByRecursion, cons_option, list_all}
-use Rattle.sh_loops.proofs.InsideLaws.{both_left, both_right}
+use Rattle.sh_sharding.proofs.Cases.{and_left, and_right}
 
 pub of_test : {X : Type 0} (p : X → Bool) (xs : List X) → list_all p xs ≡ true → AllByRecursion (λ x. p x ≡ true) xs
 of_test p [] h = tt
-of_test p (x ∷ xs) h = (both_left (p x) (list_all p xs) h, of_test p xs (both_right (p x) (list_all p xs) h))
+of_test p (x ∷ xs) h = (and_left (p x) (list_all p xs) h, of_test p xs (and_right (p x) (list_all p xs) h))
 
 pub to_test : {X : Type 0} (p : X → Bool) (xs : List X) → AllByRecursion (λ x. p x ≡ true) xs → list_all p xs ≡ true
 to_test p [] h = refl
