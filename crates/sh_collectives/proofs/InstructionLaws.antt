@@ -47,6 +47,7 @@ instructions_in ops = filter (λ op. not (is_return op.kind)) ops
 pub record IsPlacedOp (ops : List Op) (k : ℕ) (op : Op) : Type 0 where
   pub stands : slice_get ops k ≡ Some op
   pub before : take k (instructions_in ops) ≡ take k ops
+  pub other : not (is_return op.kind) ≡ true
 
 -- all operations but the last are instructions
 pub placed : (ops : List Op) (k : ℕ) (op : Op) → ends_in_return ops ≡ true → slice_get (instructions_in ops) k ≡ Some op
@@ -57,11 +58,12 @@ placed (x ∷ []) k op last h =
     absurd (none-some op (rw e at h))
 placed (x ∷ y ∷ ops) zero op last h =
     let e : not (is_return x.kind) ≡ true = and_left (not (is_return x.kind)) (ends_in_return (y ∷ ops)) last in
-    record { stands = rw e at h; before = refl }
+    let here : Some x ≡ Some op = rw e at h in
+    record { stands = here; before = refl; other = subst (λ (o : Op). not (is_return o.kind) ≡ true) (same_Some x op here) e }
 placed (x ∷ y ∷ ops) (suc k) op last h =
     let e : not (is_return x.kind) ≡ true = and_left (not (is_return x.kind)) (ends_in_return (y ∷ ops)) last in
     let rest = placed (y ∷ ops) k op (and_right (not (is_return x.kind)) (ends_in_return (y ∷ ops)) last) (rw e at h) in
-    record { stands = rest.stands; before = rw e (ap (λ os. x ∷ os) rest.before) }
+    record { stands = rest.stands; before = rw e (ap (λ os. x ∷ os) rest.before); other = rest.other }
 
 pub record IsReturnOf (ops : List Op) : Type 0 where
   pub op : Op

@@ -24,6 +24,8 @@ pub mod CellFits
 pub mod ResultTypes
 pub mod TypingLaws
 pub mod ReachedLaws
+pub mod CollectedTypes
+pub mod DeviceWalk
 pub mod AskedRules
 pub mod SourceExample
 pub mod UseLaws

@@ -46,9 +46,10 @@ are_written scope op n v (inr free) =
       written = ap (λ o. option_map_or (λ m. take m op.operands) o op.operands) free.free ∙ sym whole;
     }
 
-pub operands_there : (scope : Scope) (op : Op) (values : Values) → IsOfVerifiedOp scope op → GivesTensor (class_of op.kind)
-    → HaveTypes scope.values values → Found values (all_types scope op) op.operands
-operands_there scope op values v has have =
+-- each is there, and of its type
+pub operands_named : (scope : Scope) (op : Op) (values : Values) → IsOfVerifiedOp scope op → GivesTensor (class_of op.kind)
+    → HaveTypes scope.values values → AreNamed values (all_types scope op) op.operands
+operands_named scope op values v has have =
     let s = sound scope op v in
     let types = typing_of op.kind op.result in
     let p = are_written scope op (length types) v (arity op.kind op.operands op.result has s.counts) in
@@ -57,7 +58,11 @@ operands_there scope op values v has have =
     (subst (λ names. list_all (is_defined scope.values) names ≡ true) p.written s.there)
     (subst (λ names. are_of_types scope.values types names ≡ true) p.written s.types) in
     let captured = usable_named scope.values values have v.constants (captured_in (written_by op.kind)) (captured_usable scope op v) in
-    found values (all_types scope op) op.operands
-    (subst (AreNamed values (all_types scope op)) p.all
+    subst (AreNamed values (all_types scope op)) p.all
     (named_both values types (captured_types scope.values op.kind) (take (length types) op.operands)
-    (captured_in (written_by op.kind)) named captured))
+    (captured_in (written_by op.kind)) named captured)
+
+pub operands_there : (scope : Scope) (op : Op) (values : Values) → IsOfVerifiedOp scope op → GivesTensor (class_of op.kind)
+    → HaveTypes scope.values values → Found values (all_types scope op) op.operands
+operands_there scope op values v has have =
+    found values (all_types scope op) op.operands (operands_named scope op values v has have)

@@ -52,7 +52,7 @@ use Rattle.sh_eval.proofs.TypeLaws.{named_as}
 
 module _ (scope : List Value) (values : Values) (have : HaveTypes scope values) where
   -- with a tensor of its type
-  own_after : (op : Op) (defines : Option ℕ) (t : TensorValue) → IsOfValueType op.result t
+  pub own_after : (op : Op) (defines : Option ℕ) (t : TensorValue) → IsOfValueType op.result t
       → HaveTypes (option_map_or (λ name. value_of op name ∷ scope) defines scope) (with_value defines t values)
   own_after op None t is name v e value = have name v e value
   own_after op (Some n) t is name v e value = go (nat_eq n name) e

@@ -13,3 +13,4 @@ pub mod Stores
 pub mod Uses
 pub mod Seats
 pub mod Reached
+pub mod Devices
