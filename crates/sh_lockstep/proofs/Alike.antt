@@ -19,7 +19,7 @@ module _ {V I : Type 0} (sem : Semantics V I) where
     row_alike c l [] = refl
     row_alike c l (name ∷ names) = ap₂ ◌∷◌ (alike c name l) (row_alike c l names)
 
-    group_alike : (i : I) (members : List ℕ) → All (λ m. m < sem.devices) members
+    pub group_alike : (i : I) (members : List ℕ) → All (λ m. m < sem.devices) members
         → map (λ m. operand_by sem i (s m)) members ≡ map (λ m. operand_by sem i (t m)) members
     group_alike i [] h = refl
     group_alike i (m ∷ members) h = ap₂ ◌∷◌ (operand_alike i m (All-head (λ m. m < sem.devices) m members h)) (group_alike i members (All-tail (λ m. m < sem.devices) m members h))

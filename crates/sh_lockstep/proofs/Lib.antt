@@ -5,4 +5,5 @@ pub mod Alike
 pub mod Progress
 pub mod Starts
 pub mod Locked
+pub mod Verified
 mod Examples

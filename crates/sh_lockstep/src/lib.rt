@@ -3,8 +3,10 @@
 #![tactic(auto)]
 
 mod axes;
+mod laws;
 mod lock;
 mod steps;
 mod table;
 
+pub use laws::can_lock_laws;
 pub use lock::{Lock, lockstep};
