@@ -27,13 +27,7 @@ use Rattle.sh_ir.specs.Written.{Written, written_by, written_in_body}
 use Rattle.sh_ir.proofs.KeptLaws.{kept_inside, left_empty, right_empty}
 use Rattle.sh_sharding.proofs.Cases.{and_left, and_right}
 use Rattle.sh_collectives.specs.VerifiedOps.{IsBody, IsBodyOp, IsOfVerifiedOp}
-use Rattle.sh_collectives.proofs.RuleLaws.{neither_left, neither_right, sound}
-
--- ---- lists of faults
-
-no_fault : (b : Bool) (r : Refusal) → (if b then [] else r ∷ []) ≡ [] → b ≡ true
-no_fault true r e = refl
-no_fault false r e = absurd (cc)
+use Rattle.sh_collectives.proofs.RuleLaws.{no_fault, neither_left, neither_right, sound}
 
 -- ---- lists of names
 

@@ -1,7 +1,7 @@
 -- Each instruction of a verified function in device form has its operands among the names before it, and stands along axes of the grid.
 use Rattle.std.proofs.Common.{◌≡◌, ◌≢◌, ℕ, zero, suc, ◌<◌, Bool, true, false, cond, List, [], ◌∷◌, ◌++◌, map, length, take, Option, Some, None, refl, ap, ap₂, sym, ◌∙◌, subst, arith, append_assoc}
 use Rattle.std.proofs.lemmas.Bool.Decides.{nat_tests}
-use Rattle.std.proofs.lemmas.List.{length-map, append-nil}
+use Rattle.std.proofs.lemmas.List.{append-nil, length-map, take_all}
 use Rattle.std.proofs.lemmas.Option.{none-some, same_Some}
 use Rattle.std.specs.List.{list_all}
 use Rattle.std.specs.Option.{option_map_or}
@@ -36,7 +36,7 @@ use Rattle.sh_collectives.specs.DeviceForms.{AreInOrder, IsOfDevice, IsVerifiedF
 use Rattle.sh_collectives.specs.VerifiedOps.{IsOfVerifiedOp}
 use Rattle.sh_collectives.proofs.CapturedLaws.{all_joined, are_parted, captured_usable, is_usable}
 use Rattle.sh_collectives.proofs.MemberLaws.{at_place, of_test}
-use Rattle.sh_collectives.proofs.RuleLaws.{is_not, neither_left, neither_right, sound}
+use Rattle.sh_collectives.proofs.RuleLaws.{never, is_not, neither_left, neither_right, sound}
 use Rattle.sh_collectives.proofs.VerifiedLaws.{device_behind, grids_behind, verified_op}
 
 -- ---- instructions by their places among the operations
@@ -124,7 +124,7 @@ named_behind (op ∷ ops) scope names h =
     subst (AreNamed (scope_behind scope (op ∷ ops)).values) (append_assoc names (op.defines ∷ []) (map (λ o. o.defines) ops))
     (named_behind ops (scope_after scope op) (names ++ op.defines ∷ []) (named_after scope.values names op op.defines h))
 
-names_of : (args : List Arg) → map (λ (a : Arg). Some a.id) args ≡ map (λ name. Some name) (map (λ (a : Arg). a.id) args)
+pub names_of : (args : List Arg) → map (λ (a : Arg). Some a.id) args ≡ map (λ name. Some name) (map (λ (a : Arg). a.id) args)
 names_of [] = refl
 names_of (a ∷ args) = ap (λ ns. Some a.id ∷ ns) (names_of args)
 
@@ -177,9 +177,6 @@ operands_defined scope op v = go (written_by op.kind).operands refl (sound scope
         subst (λ names. list_all (is_defined scope.values) names ≡ true) p.all
         (all_joined (is_defined scope.values) (take n op.operands) (captured_in (written_by op.kind)) h
         (usable_defined scope.values (captured_in (written_by op.kind)) (captured_usable scope op v)))
-
-never : false ≡ true → ⊥
-never h = cc
 
 has_operand : (kind : OpKind) (operands : List ℕ) → is_collective_class (class_of kind) ≡ true → OperandsFit (written_by kind) operands
     → 0 < length operands
@@ -426,9 +423,5 @@ module _ (f : Func) (grid : List ℕ) (d : IsOfDevice f grid) where
       let names : List (Option ℕ) = map (λ name. Some name) (map (λ a. a.id) f.args) ++ map (λ o. o.defines) all in
       one_of_known (map (λ n. Some n) (map (λ a. a.id) f.args) ++ map (λ o. o.defines) (take (length all) all)) r.op.operands k name
       (subst (λ ops. IsSome (all_there (map (last_place (map (λ n. Some n) (map (λ a. a.id) f.args) ++ map (λ o. o.defines) ops)) r.op.operands)))
-      (r.before ∙ all_taken all) known)
+      (r.before ∙ sym (take_all (length all) all (omega arith))) known)
       (subst (λ ns. slice_get ns k ≡ Some name) r.gives h)
-    where
-      all_taken : (ops : List Op) → ops ≡ take (length ops) ops
-      all_taken [] = refl
-      all_taken (op ∷ ops) = ap (λ os. op ∷ os) (all_taken ops)

@@ -2,7 +2,8 @@
 use Rattle.std.proofs.Common.{◌≡◌, Bool, true, false, List, [], ◌∷◌, ◌++◌, refl}
 use Rattle.std.specs.List.{list_all}
 use Rattle.std.specs.Option.{option_map_or}
-use Rattle.std.specs.Prelude.{◌||◌, not}
+use Rattle.std.specs.Prelude.{◌||◌, if◌then◌else◌, not}
+use Rattle.sh_base.specs.declared.places.Refusal.{Refusal}
 use Rattle.sh_base.specs.declared.rules.Rule.TheVariants.{L2, L4, V1, V3, V4, V5, V6, V8, V9, V10}
 use Rattle.sh_ir.specs.declared.operations.Op.{Op}
 use Rattle.sh_ir.specs.Attributes.{numbers_fit}
@@ -20,6 +21,13 @@ use Rattle.sh_sharding.proofs.Cases.{and_left, and_right}
 use Rattle.sh_collectives.specs.VerifiedOps.{IsOfVerifiedOp}
 
 -- ---- tests
+
+pub never : false ≡ true → ⊥
+never h = cc
+
+pub no_fault : (b : Bool) (r : Refusal) → (if b then [] else r ∷ []) ≡ [] → b ≡ true
+no_fault true r e = refl
+no_fault false r e = absurd (cc)
 
 pub neither_left : (a b : Bool) → (a || b) ≡ false → a ≡ false
 neither_left true b h = absurd (cc)

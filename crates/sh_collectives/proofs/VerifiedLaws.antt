@@ -25,7 +25,7 @@ use Rattle.sh_ir.proofs.KeptLaws.{kept_first, kept_rest, left_empty, right_empty
 use Rattle.sh_sharding.proofs.Cases.{and_left, and_right}
 use Rattle.sh_collectives.specs.DeviceForms.{IsVerifiedFunc}
 use Rattle.sh_collectives.specs.VerifiedOps.{HaveScalarConstants, IsBody, IsBodyOp, IsOfVerifiedOp}
-use Rattle.sh_collectives.proofs.RuleLaws.{all_front}
+use Rattle.sh_collectives.proofs.RuleLaws.{all_front, no_fault}
 use Rattle.sh_collectives.proofs.MemberLaws.{all_both, at_place, each_chosen, each_list, each_mapped, of_back, of_front, of_test, to_test}
 
 -- ---- the rules
@@ -63,10 +63,6 @@ func_here rule m before f h =
           (left_empty (faults_at f.place (rule ∷ []) (λ r. keeps_func r m before f))
           (ops_faults (rule ∷ []) (scope_of m f) f.ops ++ return_faults (rule ∷ []) f.results f.ops) h);
     }
-  where
-    no_fault : (b : Bool) (r : Refusal) → (if b then [] else r ∷ []) ≡ [] → b ≡ true
-    no_fault true r e = refl
-    no_fault false r e = absurd (cc)
 
 funcs_here : (rule : Rule) (m : Module) (before funcs : List Func) (place : ℕ) (f : Func) → funcs_faults (rule ∷ []) m before funcs ≡ []
     → slice_get funcs place ≡ Some f → KeepsFunc rule m f

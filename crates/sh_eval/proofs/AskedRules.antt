@@ -1,4 +1,4 @@
--- The rules that are asked of a module are all: the others ask nothing, so a function of a module that keeps the asked ones is of source.
+-- The rules that are asked of a module are all: the others ask nothing, so a function of a module that keeps the asked ones keeps all.
 use Rattle.std.proofs.Common.{◌≡◌, ℕ, Bool, true, List, [], ◌∷◌, ◌++◌, Option, Some, None, refl, ap}
 use Rattle.std.specs.Option.{option_map_or}
 use Rattle.std.specs.Prelude.{if◌then◌else◌, slice_get}
@@ -7,6 +7,7 @@ use Rattle.sh_base.specs.declared.rules.Rule.{Rule}
 use Rattle.sh_base.specs.declared.rules.Rule.TheVariants.{B1, B2, B3, P1, P2, P3, L1, L2, L3, L4, L5, L6, L7, L8, L9, L10, V1, V2, V3, V4, V5, V6, V7, V8, V9, V10, V11, A1, A2, A3, A5, A6, A7, A8, A9, A10, C1, C2, C3, N1, N2, N3, N4, U1, U2, E1, E2, K1, K2, K3, K4}
 use Rattle.sh_ir.specs.declared.bodies.Body.{Body}
 use Rattle.sh_ir.specs.declared.bodies.BodyOp.{BodyOp}
+use Rattle.sh_ir.specs.declared.functions.Carry.{Carry}
 use Rattle.sh_ir.specs.declared.functions.Func.{Func}
 use Rattle.sh_ir.specs.declared.modules.CallItem.{CallItem}
 use Rattle.sh_ir.specs.declared.modules.GridItem.{GridItem}
@@ -18,9 +19,11 @@ use Rattle.sh_ir.specs.Faults.{KeepsModule, call_faults, faults_by, func_faults,
 use Rattle.sh_ir.specs.Formed.{IsFormed}
 use Rattle.sh_ir.specs.RegionRules.{block_of, keeps_at_yield, keeps_in_region, own_after}
 use Rattle.sh_ir.specs.Rules.{body_faults, faults_at, keeps, loop_count, op_faults, ops_faults, refusal_at, region_faults}
-use Rattle.sh_ir.specs.Scope.{Scope, Value, scope_after, scope_of}
+use Rattle.sh_ir.specs.Numbers.{as_naturals}
+use Rattle.sh_ir.specs.Scope.{Scope, Value, grid_item, scope_after, scope_of}
 use Rattle.sh_ir.specs.Written.{written_by}
 use Rattle.sh_ir.proofs.KeptLaws.{both_empty}
+use Rattle.sh_collectives.specs.DeviceForms.{IsOfDevice}
 use Rattle.sh_eval.specs.Sources.{IsOfSource}
 
 -- a rule that asks nothing at any place
@@ -218,3 +221,17 @@ pub of_source : (m : Module) (place : ℕ) (f : Func) → IsFormed m → KeepsAs
     → IsOfSource f
 of_source m place f formed asked stands source =
     record { whole = m; formed = formed; keeps = keeps_all m asked; place = place; stands = stands; source = source }
+
+-- And one in device form, on the grid that it is carried on.
+pub of_device : (m : Module) (place : ℕ) (f : Func) (carry : Carry) (item : GridItem) (grid : List ℕ) → IsFormed m → KeepsAsked m
+    → slice_get m.funcs place ≡ Some f → f.carry ≡ Some carry → grid_item m.grids carry.grid ≡ Some item
+    → grid ≡ as_naturals item.extents → IsOfDevice f grid
+of_device m place f carry item grid formed asked stands carried named extents =
+    record {
+      verified = record { whole = m; formed = formed; keeps = keeps_all m asked; place = place; stands = stands };
+      carry = carry;
+      carried = carried;
+      item = item;
+      named = named;
+      extents = extents;
+    }

@@ -9,8 +9,8 @@ use Rattle.sh_base.specs.declared.numbers.Cell.{Cell}
 use Rattle.sh_base.specs.declared.numbers.Cell.TheVariants.{Undef}
 use Rattle.sh_base.specs.declared.numbers.Width.{Width}
 use Rattle.sh_base.specs.declared.operations.Kind.{Kind}
-use Rattle.sh_collectives.proofs.MemberLaws.{at_place}
-use Rattle.sh_collectives.proofs.RuleLaws.{sound}
+use Rattle.sh_collectives.proofs.MemberLaws.{all_by, all_pass, at_place}
+use Rattle.sh_collectives.proofs.RuleLaws.{never, sound}
 use Rattle.sh_collectives.specs.VerifiedOps.{IsOfVerifiedOp}
 use Rattle.sh_collectives.specs.Ways.{dims_worked}
 use Rattle.sh_int.specs.Reduction.{combine_of}
@@ -29,6 +29,7 @@ use Rattle.sh_ir.specs.Formed.{is_spelled_type}
 use Rattle.sh_ir.specs.Results.{result_fits}
 use Rattle.sh_ir.specs.Scope.{Scope}
 use Rattle.sh_ir.specs.Typing.{typing_of}
+use Rattle.sh_ir.specs.Written.{first_type}
 use Rattle.sh_loops.proofs.InsideLaws.{both_left, both_right}
 use Rattle.sh_sem.specs.Collected.{Collecting, collected, collecting, combined, combined_at, exchanges, gathers, operands_fit, piece_of, reduces, result_at, scatters, shapes_by, shapes_collected, shift_source, shifted_cell, shifts}
 use Rattle.sh_sem.specs.Given.{of_dims}
@@ -40,7 +41,7 @@ use Rattle.sh_sem.specs.Types.{have_extents}
 use Rattle.sh_tensor.specs.Tensor.{IsTensor, TensorValue, at, build, slice_of}
 use Rattle.sh_tensor.proofs.TensorLaws.{IsTensor-build}
 use Rattle.sh_turns.specs.Program.{all_there}
-use Rattle.sh_eval.specs.Devices.{AreGroupOperands, operand_of, shape_collected}
+use Rattle.sh_eval.specs.Devices.{AreGroupOperands, IsInstructionOf, operand_of, operand_type, shape_collected}
 use Rattle.sh_eval.specs.Sources.{HaveTypes, IsOfValueType, has_value}
 use Rattle.sh_eval.specs.Values.{IsFew}
 use Rattle.sh_eval.specs.VerifiedOps.{GivesTensor}
@@ -51,48 +52,6 @@ use Rattle.sh_eval.proofs.ResultTypes.{joined_within, of_type}
 use Rattle.sh_eval.proofs.RuleFacts.{sound_result, spelled_value, typing_values}
 use Rattle.sh_eval.proofs.TypeLaws.{AreNamed, typed_whole, typed_width, width_by_bits}
 use Rattle.sh_eval.proofs.CapturedTypes.{captured_types}
-
--- ---- what is there of a list
-
--- what is so of each part that may be there is so of all, where they are there
-pub all_pass : {X Y : Type 0} (P : Y → Type 0) (g : X → Option Y) → ((x : X) → IfSome (g x) P) → (xs : List X) (ys : List Y)
-    → all_there (map g xs) ≡ Some ys → AllByRecursion P ys
-all_pass P g each [] ys e = subst (AllByRecursion P) (same_Some [] ys e) tt
-all_pass P g each (x ∷ xs) ys e = first (g x) (each x) (λ zs is. all_pass P g each xs zs is) e
-  where
-    second : (y : _) → P y → (r : Option (List _)) → all_there (map g xs) ≡ r
-        → ((zs : List _) → all_there (map g xs) ≡ Some zs → AllByRecursion P zs)
-        → option_map (λ zs. y ∷ zs) r ≡ Some ys → AllByRecursion P ys
-    second y h None is rest f = absurd (none-some ys f)
-    second y h (Some zs) is rest f = subst (AllByRecursion P) (same_Some (y ∷ zs) ys f) (h, rest zs is)
-
-    first : (o : Option _) → IfSome o P → ((zs : List _) → all_there (map g xs) ≡ Some zs → AllByRecursion P zs)
-        → all_there (o ∷ map g xs) ≡ Some ys → AllByRecursion P ys
-    first None h rest f = absurd (none-some ys f)
-    first (Some y) h rest f = second y h (all_there (map g xs)) refl rest f
-
--- parts that are there are there together
-pub all_found : {X Y : Type 0} (P : Y → Type 0) (g : X → Option Y) (xs : List X) → AllByRecursion (λ x. IsSomeAnd (g x) P) xs
-    → IsSomeAnd (all_there (map g xs)) (AllByRecursion P)
-all_found P g [] h = tt
-all_found P g (x ∷ xs) h = first (g x) h.0 (all_found P g xs h.1)
-  where
-    second : (y : _) → P y → (r : Option (List _)) → IsSomeAnd r (AllByRecursion P) → IsSomeAnd (option_map (λ zs. y ∷ zs) r) (AllByRecursion P)
-    second y h None rest = absurd rest
-    second y h (Some zs) rest = (h, rest)
-
-    first : (o : Option _) → IsSomeAnd o P → IsSomeAnd (all_there (map g xs)) (AllByRecursion P)
-        → IsSomeAnd (all_there (o ∷ map g xs)) (AllByRecursion P)
-    first None h rest = absurd h
-    first (Some y) h rest = second y h (all_there (map g xs)) rest
-
-pub all_by : {X : Type 0} (P : X → Type 0) (xs : List X) → AllByRecursion P xs → All P xs
-all_by P [] h = λ k d l. absurd (omega (arith, l))
-all_by P (x ∷ xs) h = go (all_by P xs h.1)
-  where
-    go : All P xs → All P (x ∷ xs)
-    go rest zero d l = h.0
-    go rest (suc k) d l = rest k d (omega (arith, l))
 
 -- ---- cells of what collectives give
 
@@ -237,7 +196,7 @@ collected_extents op grid ts p s h = first (operands_fit op.kind op.result shape
 -- ---- what is given
 
 -- is of the type of the value, where it has few cells
-pub collected_typed : (op : Op) (grid : List ℕ) (ts : List TensorValue) (p : ℕ) (t : TensorValue) → is_spelled_type op.result ≡ true
+collected_typed : (op : Op) (grid : List ℕ) (ts : List TensorValue) (p : ℕ) (t : TensorValue) → is_spelled_type op.result ≡ true
     → AllByRecursion IsTensor ts → AllByRecursion (λ (u : TensorValue). u.width ≡ width_of op.result) ts
     → IfSome (shape_collected grid op p ts) IsFew → collected op grid ts p ≡ Some t → IsOfValueType op.result t
 unfolding collected
@@ -263,26 +222,15 @@ collected_typed op grid ts p t spelled whole same few e = first (shape_collected
 
 -- ---- the type of the operand
 
-abbrev pub collective_type : OpKind → ValueType → ValueType
-collective_type (AllGather x) result = x.operand_type
-collective_type (AllReduce x) result = x.operand_type
-collective_type (ReduceScatter x) result = x.operand_type
-collective_type (AllToAll x) result = x.operand_type
-collective_type (Shift x) result = x.operand_type
-collective_type _ result = result
-
-collective_types : (kind : OpKind) (result : ValueType) → IsCollective kind → typing_of kind result ≡ collective_type kind result ∷ []
+one_type : (kind : OpKind) (result : ValueType) → IsCollective kind → typing_of kind result ≡ first_type (typing_of kind result) ∷ []
 unfolding typing_of
-collective_types (AllGather x) result is = refl
-collective_types (AllReduce x) result is = refl
-collective_types (ReduceScatter x) result is = refl
-collective_types (AllToAll x) result is = refl
-collective_types (Shift x) result is = refl
-collective_types (UpdateHalo x) result is = refl
-collective_types kind result is = absurd is
-
-never : false ≡ true → ⊥
-never h = cc
+one_type (AllGather x) result is = refl
+one_type (AllReduce x) result is = refl
+one_type (ReduceScatter x) result is = refl
+one_type (AllToAll x) result is = refl
+one_type (Shift x) result is = refl
+one_type (UpdateHalo x) result is = refl
+one_type kind result is = absurd is
 
 pub collective_kind : (kind : OpKind) → is_collective_class (class_of kind) ≡ true → IsCollective kind
 collective_kind (AllGather x) h = tt
@@ -328,8 +276,8 @@ unfolding types_agree
 agreed_bits t u h = both_left _ _ (both_right _ _ h)
 
 collective_bits : (scope : Scope) (kind : OpKind) (result : ValueType) → IsCollective kind → result_fits scope kind result ≡ true
-    → same_bits (collective_type kind result) result ≡ true
-unfolding result_fits
+    → same_bits (first_type (typing_of kind result)) result ≡ true
+unfolding result_fits typing_of
 collective_bits scope (AllGather x) result is h = both_left _ _ (both_left _ _ h)
 collective_bits scope (AllReduce x) result is h = agreed_bits x.operand_type result h
 collective_bits scope (ReduceScatter x) result is h = both_left _ _ (both_left _ _ h)
@@ -340,8 +288,8 @@ collective_bits scope kind result is h = absurd is
 
 -- and it has the dimensions along which the collective works
 collective_dims : (scope : Scope) (kind : OpKind) (result : ValueType) → IsCollective kind → numbers_fit scope kind result ≡ true
-    → AllByRecursion (λ a. has_dim (collective_type kind result) a ≡ true) (dims_worked kind)
-unfolding numbers_fit along_fits
+    → AllByRecursion (λ a. has_dim (first_type (typing_of kind result)) a ≡ true) (dims_worked kind)
+unfolding numbers_fit along_fits typing_of
 collective_dims scope (AllGather x) result is h = (both_right _ _ h, tt)
 collective_dims scope (AllReduce x) result is h = tt
 collective_dims scope (ReduceScatter x) result is h = (both_right _ _ h, tt)
@@ -369,11 +317,11 @@ typed_rank value_type.Index t h = absurd h
 -- ---- the operands of a group
 
 module _ (type : ValueType) where
-  pub group_whole : (ts : List TensorValue) → AllByRecursion (IsOfValueType type) ts → AllByRecursion IsTensor ts
+  group_whole : (ts : List TensorValue) → AllByRecursion (IsOfValueType type) ts → AllByRecursion IsTensor ts
   group_whole [] h = tt
   group_whole (t ∷ ts) h = (typed_whole type t h.0, group_whole ts h.1)
 
-  pub group_width : (w : Width) (ts : List TensorValue) → width_of type ≡ w → AllByRecursion (IsOfValueType type) ts
+  group_width : (w : Width) (ts : List TensorValue) → width_of type ≡ w → AllByRecursion (IsOfValueType type) ts
       → AllByRecursion (λ (t : TensorValue). t.width ≡ w) ts
   group_width w [] same h = tt
   group_width w (t ∷ ts) same h = (typed_width type t h.0 ∙ same, group_width w ts same h.1)
@@ -399,28 +347,33 @@ first_named : (values : Values) (type : ValueType) (types : List ValueType) (nam
 first_named values type types [] h = absurd h
 first_named values type types (n ∷ names) h = h.0
 
-module _ (scope : Scope) (op : Op) (v : IsOfVerifiedOp scope op) (has : GivesTensor (class_of op.kind)) (is : IsCollective op.kind) where
-  abbrev pub operand_type : ValueType
-  operand_type = collective_type op.kind op.result
-
+module _ (scope : Scope) (op : Op) (v : IsInstructionOf scope op) (is : IsCollective op.kind) where
   -- a device with values of the scope's types gives one of the operand's type
-  pub operand_typed : (values : Values) → HaveTypes scope.values values → IsSomeAnd (operand_of op values) (IsOfValueType operand_type)
+  pub operand_typed : (values : Values) → HaveTypes scope.values values → IsSomeAnd (operand_of op values) (IsOfValueType (operand_type op))
   operand_typed values have =
-      first_named values operand_type (captured_types scope.values op.kind) op.operands
-      (subst (λ types. AreNamed values (types ++ captured_types scope.values op.kind) op.operands) (collective_types op.kind op.result is)
-      (operands_named scope op values v has have))
+      first_named values (operand_type op) (captured_types scope.values op.kind) op.operands
+      (subst (λ types. AreNamed values (types ++ captured_types scope.values op.kind) op.operands) (one_type op.kind op.result is)
+      (operands_named scope op values v.verified v.gives have))
 
-  pub operand_width : width_of operand_type ≡ width_of op.result
+  operand_width : width_of (operand_type op) ≡ width_of op.result
   operand_width =
-      let values = subst (λ types. list_all has_value types ≡ true) (collective_types op.kind op.result is)
-      (typing_values op.kind op.result has v.spelled) in
-      width_by_bits operand_type op.result (both_left (has_value operand_type) true values)
-      (spelled_value op.result (sound_result scope op v has).spelled) (collective_bits scope op.kind op.result is (sound scope op v).results)
+      let values = subst (λ types. list_all has_value types ≡ true) (one_type op.kind op.result is)
+      (typing_values op.kind op.result v.gives v.verified.spelled) in
+      width_by_bits (operand_type op) op.result (both_left (has_value (operand_type op)) true values)
+      (spelled_value op.result (sound_result scope op v.verified v.gives).spelled)
+      (collective_bits scope op.kind op.result is (sound scope op v.verified).results)
 
-  pub are_group_operands : (ts : List TensorValue) → AllByRecursion (IsOfValueType operand_type) ts → AreGroupOperands op ts
+  pub are_group_operands : (ts : List TensorValue) → AllByRecursion (IsOfValueType (operand_type op)) ts → AreGroupOperands op ts
   are_group_operands ts h = record {
     dims = all_by (λ a. All (λ s. a < length s) (map (λ t. t.shape) ts)) (dims_worked op.kind)
-        (group_dims operand_type (dims_worked op.kind) ts (collective_dims scope op.kind op.result is (sound scope op v).numbers) h);
+        (group_dims (operand_type op) (dims_worked op.kind) ts (collective_dims scope op.kind op.result is (sound scope op v.verified).numbers) h);
     widths = all_by (λ (t : TensorValue). t.width ≡ width_of op.result) ts
-        (group_width operand_type (width_of op.result) ts operand_width h);
+        (group_width (operand_type op) (width_of op.result) ts operand_width h);
   }
+
+  -- what is given of a group has few cells, and so is of the type of the value
+  pub group_typed : (grid : List ℕ) (ts : List TensorValue) (place : ℕ) (t : TensorValue) → AllByRecursion (IsOfValueType (operand_type op)) ts
+      → IfSome (shape_collected grid op place ts) IsFew → collected op grid ts place ≡ Some t → IsOfValueType op.result t
+  group_typed grid ts place t h few e =
+      collected_typed op grid ts place t (sound_result scope op v.verified v.gives).spelled
+      (group_whole (operand_type op) ts h) (group_width (operand_type op) (width_of op.result) ts operand_width h) few e

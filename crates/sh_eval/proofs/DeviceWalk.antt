@@ -1,11 +1,12 @@
 -- Instructions of a verified function in device form can be run where they are reached: their operands are there and of their types, on each device.
 use Rattle.std.proofs.Common.{◌≡◌, ℕ, zero, suc, ◌+◌, ◌<◌, Bool, true, false, List, [], ◌∷◌, map, take, length, get_or, Option, Some, None, refl, ap, sym, ◌∙◌, arith, subst}
-use Rattle.std.proofs.lemmas.Option.{none-some}
+use Rattle.std.proofs.lemmas.Option.{none-some, same_Some}
 use Rattle.std.specs.List.{All, AllByRecursion}
-use Rattle.std.specs.Prelude.{IfSome, IsSome, IsSomeAnd, if◌then◌else◌, not, option_and_then, slice_get}
+use Rattle.std.specs.Prelude.{fold, IfSome, IsSome, IsSomeAnd, if◌then◌else◌, not, option_and_then, slice_get}
 use Rattle.std.proofs.lemmas.List.Elements.{All-head, All-tail}
 use Rattle.sh_base.specs.Shape.{cell_count}
 use Rattle.sh_collectives.proofs.InstructionLaws.{device_op, instructions_in, placed, return_last, scope_there}
+use Rattle.sh_collectives.proofs.MemberLaws.{all_found}
 use Rattle.sh_collectives.proofs.VerifiedLaws.{verified_op}
 use Rattle.sh_collectives.specs.DeviceForms.{IsOfDevice}
 use Rattle.sh_collectives.specs.VerifiedOps.{IsOfVerifiedOp}
@@ -23,29 +24,25 @@ use Rattle.sh_pieces.specs.Instructions.{State, gives, is_name}
 use Rattle.sh_pieces.specs.Runs.{next_state, state_after}
 use Rattle.sh_sem.proofs.Groups.{has_groups}
 use Rattle.sh_sem.specs.Collected.{collected}
-use Rattle.sh_sem.specs.Given.{given, shape_given}
-use Rattle.sh_sem.specs.Meaning.{with_value}
+use Rattle.sh_sem.specs.Given.{Seat, given, shape_given}
+use Rattle.sh_sem.specs.Meaning.{Values, with_value}
 use Rattle.sh_sem.specs.Scalars.{width_of}
 use Rattle.sh_sem.specs.Steps.{axes_of, device_function, is_collective_class, seat_of, steps_on}
 use Rattle.sh_tensor.specs.Tensor.{TensorValue}
 use Rattle.sh_turns.specs.Program.{all_there}
-use Rattle.sh_eval.specs.Devices.{AreGroupOperands, AreLocalArguments, CanRunOn, GivesFewAlong, HasFewOn, IsReachedAt, group_operands, operand_of, shape_collected, shape_on, values_at}
+use Rattle.sh_eval.specs.Devices.{AreGroupOperands, AreLocalArguments, CanGive, CanRunOn, GivesFewAlong, GoesOn, HasFewOn, HasScope, IsInstructionOf, IsReachedAt, IsScopeAt, group_operands, operand_of, operand_type, shape_collected, shape_on, values_at}
 use Rattle.sh_eval.specs.Evaluations.{CanEvaluate}
-use Rattle.sh_eval.specs.Sources.{HaveTypes, IsOfValueType}
+use Rattle.sh_eval.specs.Sources.{AreOfValueTypes, HaveTypes, IsOfValueType}
+use Rattle.sh_eval.specs.Reached.{values_at_start}
 use Rattle.sh_eval.specs.Values.{IsFew, shapes_of}
 use Rattle.sh_eval.specs.VerifiedOps.{GivesTensor}
-use Rattle.sh_eval.proofs.CollectedTypes.{all_found, are_group_operands, collected_typed, collective_kind, group_whole, group_width, operand_type, operand_typed, operand_width}
-use Rattle.sh_eval.proofs.Evaluable.{IsCollective, can_evaluate}
+use Rattle.sh_eval.proofs.CollectedTypes.{are_group_operands, collective_kind, group_typed, operand_typed}
+use Rattle.sh_eval.proofs.Evaluable.{can_evaluate}
 use Rattle.sh_eval.proofs.OperandLaws.{all_types, operands_there}
 use Rattle.sh_eval.proofs.ResultTypes.{result_typed}
 use Rattle.sh_eval.proofs.RuleFacts.{sound_result}
 use Rattle.sh_eval.proofs.TypeLaws.{Found}
 use Rattle.sh_eval.proofs.TypingLaws.{args_typed, own_after}
-
--- an operation of a verified function in device form that isn't the return
-pub record IsInstructionOf (scope : Scope) (op : Op) : Type 0 where
-  pub verified : IsOfVerifiedOp scope op
-  pub gives : GivesTensor (class_of op.kind)
 
 gives_tensor : (c : OpClass) → is_of_device c ≡ true → not (is_return_class c) ≡ true → GivesTensor c
 gives_tensor class.Creator h k = tt
@@ -65,12 +62,26 @@ each_below n P [] h each = tt
 each_below n P (m ∷ ms) h each =
     (each m (All-head (λ m. m < n) m ms h), each_below n P ms (All-tail (λ m. m < n) m ms h) each)
 
--- what is so of what is there
-of_some : {X : Type 0} (P : X → Type 0) (o : Option X) → IsSomeAnd o P → IfSome o P
-of_some P None h = absurd h
-of_some P (Some x) h = h
-
 -- ---- one instruction, on values of the types of the scope
+
+can_give : (scope : Scope) (op : Op) (v : IsInstructionOf scope op) (seat : Seat) (ts : List TensorValue) → AreOfValueTypes (all_types scope op) ts
+    → CanGive op seat ts
+can_give scope op v seat ts typed = record {
+  can = λ few. can_evaluate scope op seat ts v.verified v.gives typed few;
+  typed = λ few t e. result_typed scope op seat ts v.verified v.gives typed few t e;
+}
+
+-- its operands are there
+pub can_give_there : (scope : Scope) (op : Op) (seat : Seat) (values : Values) → IsInstructionOf scope op → HaveTypes scope.values values
+    → IsSomeAnd (all_there (map values op.operands)) (CanGive op seat)
+can_give_there scope op seat values v have =
+    let found = operands_there scope op values v.verified v.gives have in
+    subst (λ o. IsSomeAnd o (CanGive op seat)) (sym found.there) (can_give scope op v seat found.ts found.typed)
+
+-- and behind it, with what it gives
+pub have_after : (scope : Scope) (op : Op) (values : Values) (t : TensorValue) → HaveTypes scope.values values → IsOfValueType op.result t
+    → HaveTypes (scope_after scope op).values (with_value op.defines t values)
+have_after scope op values t have is = own_after scope.values values have op op.defines t is
 
 module _ (grid : List ℕ) (scope : Scope) (op : Op) (v : IsInstructionOf scope op) (s : State TensorValue)
     (have : (c : ℕ) → c < cell_count grid → HaveTypes scope.values (s c)) (few : HasFewOn grid op s) where
@@ -97,55 +108,46 @@ module _ (grid : List ℕ) (scope : Scope) (op : Op) (v : IsInstructionOf scope 
   can_local c l e =
       let found = operands_found c l in
       subst (λ o. IsSomeAnd o (CanEvaluate op (seat_of grid op c))) (sym found.there)
-      (can_evaluate scope op (seat_of grid op c) found.ts v.verified v.gives found.typed (few_local c l e))
+      ((can_give scope op v (seat_of grid op c) found.ts found.typed).can (few_local c l e))
 
   local_typed : (c : ℕ) → c < cell_count grid → is_collective_class (class_of op.kind) ≡ false → (t : TensorValue)
       → option_and_then (given op (seat_of grid op c)) (all_there (map (s c) op.operands)) ≡ Some t → IsOfValueType op.result t
   local_typed c l e t h =
       let found = operands_found c l in
-      result_typed scope op (seat_of grid op c) found.ts v.verified v.gives found.typed (few_local c l e) t
+      (can_give scope op v (seat_of grid op c) found.ts found.typed).typed (few_local c l e) t
       (ap (option_and_then (given op (seat_of grid op c))) (sym found.there) ∙ h)
 
   -- a collective
 
   module _ (e : is_collective_class (class_of op.kind) ≡ true) where
-    is : IsCollective op.kind
-    is = collective_kind op.kind e
-
-    abbrev type : ValueType
-    type = operand_type scope op v.verified v.gives (collective_kind op.kind e)
-
     members_inside : (c : ℕ) → c < cell_count grid → All (λ m. m < cell_count grid) (group_of grid (axes_of op.kind) c)
     unfolding steps_on
     members_inside c l = (has_groups grid).inside op c l e
 
-    group_found : (c : ℕ) → c < cell_count grid → IsSomeAnd (group_operands grid op s c) (AllByRecursion (IsOfValueType type))
+    group_found : (c : ℕ) → c < cell_count grid → IsSomeAnd (group_operands grid op s c) (AllByRecursion (IsOfValueType (operand_type op)))
     group_found c l =
-        all_found (IsOfValueType type) (λ m. operand_of op (s m)) (group_of grid (axes_of op.kind) c)
-        (each_below (cell_count grid) (λ m. IsSomeAnd (operand_of op (s m)) (IsOfValueType type))
+        all_found (IsOfValueType (operand_type op)) (λ m. operand_of op (s m)) (group_of grid (axes_of op.kind) c)
+        (each_below (cell_count grid) (λ m. IsSomeAnd (operand_of op (s m)) (IsOfValueType (operand_type op)))
         (group_of grid (axes_of op.kind) c) (members_inside c l)
-        (λ m below. operand_typed scope op v.verified v.gives (collective_kind op.kind e) (s m) (have m below)))
+        (λ m below. operand_typed scope op v (collective_kind op.kind e) (s m) (have m below)))
 
     can_collect : (c : ℕ) → c < cell_count grid → IsSomeAnd (group_operands grid op s c) (AreGroupOperands op)
     can_collect c l = go (group_operands grid op s c) (group_found c l)
       where
-        go : (o : Option (List TensorValue)) → IsSomeAnd o (AllByRecursion (IsOfValueType type)) → IsSomeAnd o (AreGroupOperands op)
+        go : (o : Option (List TensorValue)) → IsSomeAnd o (AllByRecursion (IsOfValueType (operand_type op))) → IsSomeAnd o (AreGroupOperands op)
         go None h = absurd h
-        go (Some ts) h = are_group_operands scope op v.verified v.gives (collective_kind op.kind e) ts h
+        go (Some ts) h = are_group_operands scope op v (collective_kind op.kind e) ts h
 
-    group_typed : (c : ℕ) → c < cell_count grid → (t : TensorValue)
+    collective_typed : (c : ℕ) → c < cell_count grid → (t : TensorValue)
         → option_and_then (λ ts. collected op grid ts (place_in grid (axes_of op.kind) c)) (group_operands grid op s c) ≡ Some t
         → IsOfValueType op.result t
-    group_typed c l t h = go (group_operands grid op s c) (group_found c l) (few_by c l true e) h
+    collective_typed c l t h = go (group_operands grid op s c) (group_found c l) (few_by c l true e) h
       where
-        go : (o : Option (List TensorValue)) → IsSomeAnd o (AllByRecursion (IsOfValueType type))
+        go : (o : Option (List TensorValue)) → IsSomeAnd o (AllByRecursion (IsOfValueType (operand_type op)))
             → IfSome (option_and_then (shape_collected grid op (place_in grid (axes_of op.kind) c)) o) IsFew
             → option_and_then (λ ts. collected op grid ts (place_in grid (axes_of op.kind) c)) o ≡ Some t → IsOfValueType op.result t
         go None is small f = absurd is
-        go (Some ts) is small f =
-            collected_typed op grid ts (place_in grid (axes_of op.kind) c) t (sound_result scope op v.verified v.gives).spelled
-            (group_whole type ts is)
-            (group_width type (width_of op.result) ts (operand_width scope op v.verified v.gives (collective_kind op.kind e)) is) small f
+        go (Some ts) is small f = group_typed scope op v (collective_kind op.kind e) grid ts (place_in grid (axes_of op.kind) c) t is small f
 
   -- either
 
@@ -157,7 +159,7 @@ module _ (grid : List ℕ) (scope : Scope) (op : Op) (v : IsInstructionOf scope 
           → (if b then option_and_then (λ ts. collected op grid ts (place_in grid (axes_of op.kind) c)) (group_operands grid op s c)
           else option_and_then (given op (seat_of grid op c)) (all_there (map (s c) op.operands))) ≡ Some t
           → IsOfValueType op.result t
-      go true e f = group_typed e c l t f
+      go true e f = collective_typed e c l t f
       go false e f = local_typed c l e t f
 
   pub can_run : (c : ℕ) → c < cell_count grid → CanRunOn grid op s c
@@ -226,3 +228,41 @@ module _ (f : Func) (grid : List ℕ) (d : IsOfDevice f grid) where
     can_run_reached k op at reached c l =
         can_run grid (scope_behind (scope_of d.verified.whole f) (take k (instructions_in f.ops))) op (instructions_are k op at)
         (values_at f grid arguments k) (types_reached k reached) (few k op at reached) c l
+
+-- ---- scopes
+
+folded_behind : (scope : Scope) (ops : List Op) → fold scope_after scope ops ≡ scope_behind scope ops
+folded_behind scope [] = refl
+folded_behind scope (op ∷ ops) = folded_behind (scope_after scope op) ops
+
+fold_next : (scope : Scope) (ops : List Op) (k : ℕ) (op : Op) → slice_get ops k ≡ Some op
+    → scope_after (fold scope_after scope (take k ops)) op ≡ fold scope_after scope (take (suc k) ops)
+fold_next scope [] k op e = absurd (none-some op e)
+fold_next scope (x ∷ ops) zero op e = ap (scope_after scope) (sym (same_Some x op e))
+fold_next scope (x ∷ ops) (suc k) op e = fold_next (scope_after scope x) ops k op e
+
+pub scope_at : (f : Func) (grid : List ℕ) (k : ℕ) → IsOfDevice f grid → HasScope f grid k
+scope_at f grid k d = record {
+  scope = fold scope_after (scope_of d.verified.whole f) (take k (device_function f).instructions);
+  at = record { device = d; behind = refl };
+}
+
+pub goes_on : (f : Func) (grid : List ℕ) (k : ℕ) (scope : Scope) (op : Op) → IsScopeAt f grid k scope
+    → slice_get (device_function f).instructions k ≡ Some op → GoesOn f grid k scope op
+unfolding device_function
+goes_on f grid k scope op s at =
+    let start = scope_of s.device.verified.whole f in
+    record {
+      here = subst (λ x. IsInstructionOf x op) (sym (s.behind ∙ folded_behind start (take k (instructions_in f.ops))))
+          (instructions_are f grid s.device k op at);
+      next = record {
+        device = s.device;
+        behind = ap (λ x. scope_after x op) s.behind ∙ fold_next start (instructions_in f.ops) k op at;
+      };
+    }
+
+-- Arguments of the local types are so in the scope at the start.
+pub have_at_start : (f : Func) (grid : List ℕ) (scope : Scope) (arguments : List TensorValue) → IsScopeAt f grid 0 scope
+    → AreOfValueTypes (map (λ a. a.value_type) f.args) arguments → HaveTypes scope.values (values_at_start f arguments)
+have_at_start f grid scope arguments s typed =
+    subst (λ x. HaveTypes x.values (values_at_start f arguments)) (sym s.behind) (args_typed s.device.verified.whole f arguments typed)

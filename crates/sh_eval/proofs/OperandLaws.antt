@@ -1,6 +1,6 @@
 -- The operands of an operation of a verified function are there, and are of the types that are written for them.
-use Rattle.std.proofs.Common.{◌≡◌, ℕ, true, List, [], ◌∷◌, ◌++◌, length, take, refl, ap, sym, ◌∙◌, subst, inl, inr}
-use Rattle.std.proofs.lemmas.List.{append-nil}
+use Rattle.std.proofs.Common.{◌≡◌, ℕ, true, List, [], ◌∷◌, ◌++◌, length, take, refl, ap, sym, ◌∙◌, arith, subst, inl, inr}
+use Rattle.std.proofs.lemmas.List.{append-nil, take_all}
 use Rattle.std.specs.List.{list_all}
 use Rattle.std.specs.Option.{option_map_or}
 use Rattle.sh_ir.specs.declared.operations.Op.{Op}
@@ -30,16 +30,12 @@ record AreWritten (scope : Scope) (op : Op) (n : ℕ) : Type 0 where
   long : length (take n op.operands) ≡ n
   written : written_operands op ≡ take n op.operands
 
-all_taken : {X : Type 0} (xs : List X) → take (length xs) xs ≡ xs
-all_taken [] = refl
-all_taken (x ∷ xs) = ap (λ ys. x ∷ ys) (all_taken xs)
-
 are_written : (scope : Scope) (op : Op) (n : ℕ) → IsOfVerifiedOp scope op → HasArity op.kind op.operands n → AreWritten scope op n
 are_written scope op n v (inl count) =
     let p = are_parted (written_by op.kind) n op.operands count v.counted v.captures in
     record { all = p.all; long = p.long; written = ap (λ o. option_map_or (λ m. take m op.operands) o op.operands) count }
 are_written scope op n v (inr free) =
-    let whole : take n op.operands ≡ op.operands = subst (λ m. take m op.operands ≡ op.operands) free.long (all_taken op.operands) in
+    let whole : take n op.operands ≡ op.operands = subst (λ m. take m op.operands ≡ op.operands) free.long (take_all (length op.operands) op.operands (omega arith)) in
     record {
       all = ap (λ names. take n op.operands ++ names) free.alone ∙ append-nil (take n op.operands) ∙ whole;
       long = ap length whole ∙ free.long;

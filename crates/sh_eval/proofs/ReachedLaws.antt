@@ -38,7 +38,7 @@ use Rattle.sh_eval.specs.VerifiedOps.{GivesTensor, HasTensor}
 use Rattle.sh_eval.proofs.Evaluable.{can_evaluate_alone, few_dims}
 use Rattle.sh_eval.proofs.OperandLaws.{all_types, operands_there}
 use Rattle.sh_eval.proofs.ResultTypes.{result_typed_alone, source_type}
-use Rattle.sh_collectives.proofs.RuleLaws.{sound}
+use Rattle.sh_collectives.proofs.RuleLaws.{never, sound}
 use Rattle.sh_eval.proofs.RuleFacts.{known_result, passes_first, passes_last, source_op}
 use Rattle.sh_collectives.proofs.VerifiedLaws.{device_behind, small_args}
 use Rattle.sh_eval.proofs.SourceOps.{op_there, source_scope, verified_func}
@@ -170,9 +170,6 @@ record GivesNone (kind : OpKind) : Type 0 where
   fits : (operands : List ℕ) (result : ValueType) (ts : List TensorValue) → FitsKind kind operands result ts
   short : (result : ValueType) → ResultFits (written_by kind).result result
       → list_all has_few_dims (types_in (written_by kind) result) ≡ true → length (dims_of result) ≤ max_rank
-
-never : false ≡ true → ⊥
-never h = cc
 
 tensor_or_none : (kind : OpKind) → is_of_source (class_of kind) ≡ true → HasTensor (class_of kind) ⊎ GivesNone kind
 tensor_or_none (Constant x) source = inl tt

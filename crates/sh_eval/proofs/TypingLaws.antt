@@ -44,7 +44,8 @@ use Rattle.sh_eval.proofs.EvaluationLaws.{default_value, given_apart}
 use Rattle.sh_eval.proofs.Evaluable.{few_by_type, op_by}
 use Rattle.sh_eval.proofs.OperandLaws.{all_types, operands_there}
 use Rattle.sh_eval.proofs.ResultTypes.{result_typed_alone}
-use Rattle.sh_collectives.proofs.RuleLaws.{sound}
+use Rattle.sh_collectives.proofs.InstructionLaws.{names_of}
+use Rattle.sh_collectives.proofs.RuleLaws.{never, sound}
 use Rattle.sh_eval.proofs.RuleFacts.{source_op, spelled_value}
 use Rattle.sh_eval.proofs.TypeLaws.{named_as}
 
@@ -185,9 +186,6 @@ call_after x operands defines result place values after h =
     let g = is_given op values own.t own.is in
     none_given op g.ts own.t (call_gives x operands result) g.given_is
 
-not_of_source : false ≡ true → ⊥
-not_of_source h = cc
-
 kind_after : (scope : Scope) (kind : OpKind) (operands : List ℕ) (defines : Option ℕ) (result : ValueType) (place : Place)
     (values after : Values) → scope.device ≡ None → IsOfVerifiedOp scope (op_by kind operands defines result place)
     → HaveTypes scope.values values → after_class (class_of kind) (op_by kind operands defines result place) values ≡ Some after
@@ -241,25 +239,25 @@ kind_after scope (Sharding x) operands defines result place values after none v 
 kind_after scope (Shard x) operands defines result place values after none v have h =
     note_after scope x defines result place operands values after v have h
 kind_after scope (AllGather x) operands defines result place values after none v have h =
-    absurd (not_of_source (source_op scope (op_by (AllGather x) operands defines result place) none v).source)
+    absurd (never (source_op scope (op_by (AllGather x) operands defines result place) none v).source)
 kind_after scope (AllSlice x) operands defines result place values after none v have h =
-    absurd (not_of_source (source_op scope (op_by (AllSlice x) operands defines result place) none v).source)
+    absurd (never (source_op scope (op_by (AllSlice x) operands defines result place) none v).source)
 kind_after scope (AllReduce x) operands defines result place values after none v have h =
-    absurd (not_of_source (source_op scope (op_by (AllReduce x) operands defines result place) none v).source)
+    absurd (never (source_op scope (op_by (AllReduce x) operands defines result place) none v).source)
 kind_after scope (ReduceScatter x) operands defines result place values after none v have h =
-    absurd (not_of_source (source_op scope (op_by (ReduceScatter x) operands defines result place) none v).source)
+    absurd (never (source_op scope (op_by (ReduceScatter x) operands defines result place) none v).source)
 kind_after scope (AllToAll x) operands defines result place values after none v have h =
-    absurd (not_of_source (source_op scope (op_by (AllToAll x) operands defines result place) none v).source)
+    absurd (never (source_op scope (op_by (AllToAll x) operands defines result place) none v).source)
 kind_after scope (Shift x) operands defines result place values after none v have h =
-    absurd (not_of_source (source_op scope (op_by (Shift x) operands defines result place) none v).source)
+    absurd (never (source_op scope (op_by (Shift x) operands defines result place) none v).source)
 kind_after scope (UpdateHalo x) operands defines result place values after none v have h =
-    absurd (not_of_source (source_op scope (op_by (UpdateHalo x) operands defines result place) none v).source)
+    absurd (never (source_op scope (op_by (UpdateHalo x) operands defines result place) none v).source)
 kind_after scope (Take x) operands defines result place values after none v have h =
-    absurd (not_of_source (source_op scope (op_by (Take x) operands defines result place) none v).source)
+    absurd (never (source_op scope (op_by (Take x) operands defines result place) none v).source)
 kind_after scope (Pad x) operands defines result place values after none v have h =
-    absurd (not_of_source (source_op scope (op_by (Pad x) operands defines result place) none v).source)
+    absurd (never (source_op scope (op_by (Pad x) operands defines result place) none v).source)
 kind_after scope (Join x) operands defines result place values after none v have h =
-    absurd (not_of_source (source_op scope (op_by (Join x) operands defines result place) none v).source)
+    absurd (never (source_op scope (op_by (Join x) operands defines result place) none v).source)
 kind_after scope (Call x) operands defines result place values after none v have h =
     absurd (call_after x operands defines result place values after h)
 kind_after scope (Return x) operands defines result place values after none v have h =
@@ -344,14 +342,10 @@ args_from own names os (arg ∷ args) (t ∷ ts) sizes are have =
     (subst (λ vs. HaveTypes (with_args own (arg ∷ args)) (value_under ((names ++ Some arg.id ∷ []) ++ map (λ a. Some a.id) args) vs))
     (append_assoc os (Some t ∷ []) (there ts)) rest)
 
-named_args : (args : List Arg) → map (λ (a : Arg). Some a.id) args ≡ map (λ name. Some name) (map (λ (a : Arg). a.id) args)
-named_args [] = refl
-named_args (a ∷ args) = ap (λ ns. Some a.id ∷ ns) (named_args args)
-
 -- Arguments of the parameters' types are so in the scope at the start.
 pub args_typed : (m : Module) (f : Func) (arguments : List TensorValue) → AreOfValueTypes (map (λ a. a.value_type) f.args) arguments
     → HaveTypes (scope_of m f).values (argument_under (map (λ a. a.id) f.args) arguments)
 args_typed m f arguments are =
     let none : HaveTypes [] (value_under [] []) = λ name v e value. absurd (none-some v e) in
-    subst (λ ns. HaveTypes (with_args [] f.args) (value_under ns (there arguments))) (named_args f.args)
+    subst (λ ns. HaveTypes (with_args [] f.args) (value_under ns (there arguments))) (names_of f.args)
     (args_from [] [] [] f.args arguments refl are none)

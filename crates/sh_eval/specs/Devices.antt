@@ -1,25 +1,66 @@
 -- Functions in device form, run on all devices of a grid: the instructions that are reached, and
 -- what is so of each there.
-use Rattle.std.specs.Prelude.{◌≡◌, ℕ, ◌<◌, true, false, List, length, map, slice_get, Option, Some, IfSome, IsSome, IsSomeAnd, option_and_then, if◌then◌else◌}
+use Rattle.std.specs.Prelude.{◌≡◌, ℕ, suc, ◌<◌, true, false, List, fold, length, map, take, slice_get, Option, Some, IfSome, IsSome, IsSomeAnd, option_and_then, if◌then◌else◌}
 use Rattle.std.specs.List.{All}
 use Rattle.sh_base.specs.Shape.{cell_count}
+use Rattle.sh_collectives.specs.DeviceForms.{IsOfDevice}
+use Rattle.sh_collectives.specs.VerifiedOps.{IsOfVerifiedOp}
 use Rattle.sh_collectives.specs.Ways.{dims_worked}
 use Rattle.sh_eval.specs.Evaluations.{CanEvaluate}
 use Rattle.sh_eval.specs.Sources.{AreOfValueTypes, IsOfValueType}
 use Rattle.sh_eval.specs.Values.{IsFew, shapes_of}
+use Rattle.sh_eval.specs.VerifiedOps.{GivesTensor}
 use Rattle.sh_grid.specs.Grid.{group_of, place_in}
 use Rattle.sh_ir.specs.Classes.{class_of}
+use Rattle.sh_ir.specs.Scope.{Scope, scope_after, scope_of}
+use Rattle.sh_ir.specs.Typing.{typing_of}
+use Rattle.sh_ir.specs.Written.{first_type}
+use Rattle.sh_ir.specs.declared.types.ValueType.{ValueType}
 use Rattle.sh_ir.specs.declared.functions.Func.{Func}
 use Rattle.sh_ir.specs.declared.operations.Op.{Op}
 use Rattle.sh_pieces.specs.Instructions.{State, gives}
 use Rattle.sh_pieces.specs.Runs.{state_before}
 use Rattle.sh_sem.specs.Collected.{shapes_collected}
-use Rattle.sh_sem.specs.Given.{shape_given}
+use Rattle.sh_sem.specs.Given.{Seat, given, shape_given}
 use Rattle.sh_sem.specs.Meaning.{Values}
 use Rattle.sh_sem.specs.Scalars.{width_of}
 use Rattle.sh_sem.specs.Steps.{axes_of, device_function, is_collective_class, seat_of, steps_on}
 use Rattle.sh_tensor.specs.Tensor.{TensorValue}
 use Rattle.sh_turns.specs.Program.{all_there}
+
+-- ---- an instruction in its scope
+
+-- an operation of a verified function in device form that isn't the return, in the scope before it
+pub record IsInstructionOf (scope : Scope) (op : Op) : Type 0 where
+  pub verified : IsOfVerifiedOp scope op
+  pub gives : GivesTensor (class_of op.kind)
+
+-- the scope before instruction k
+pub record IsScopeAt (f : Func) (grid : List ℕ) (k : ℕ) (scope : Scope) : Type 0 where
+  pub device : IsOfDevice f grid
+  pub behind : scope
+      ≡ fold scope_after (scope_of device.verified.whole f) (take k (device_function f).instructions)
+
+-- there is one
+pub record HasScope (f : Func) (grid : List ℕ) (k : ℕ) : Type 0 where
+  pub scope : Scope
+  pub at : IsScopeAt f grid k scope
+
+-- and the next one is that behind the instruction
+pub record GoesOn (f : Func) (grid : List ℕ) (k : ℕ) (scope : Scope) (op : Op) : Type 0 where
+  pub here : IsInstructionOf scope op
+  pub next : IsScopeAt f grid (suc k) (scope_after scope op)
+
+-- operands of a local instruction, on which it can be done where what it gives has few cells; and
+-- that is of the type of its value
+pub record CanGive (op : Op) (seat : Seat) (ts : List TensorValue) : Type 0 where
+  pub can : IfSome (shape_given op seat (shapes_of ts)) IsFew → CanEvaluate op seat ts
+  pub typed : IfSome (shape_given op seat (shapes_of ts)) IsFew → (t : TensorValue)
+      → given op seat ts ≡ Some t → IsOfValueType op.result t
+
+-- the type that is written for the operand of a collective
+abbrev pub operand_type : Op → ValueType
+operand_type op = first_type (typing_of op.kind op.result)
 
 -- ---- an instruction, with these values of all devices
 

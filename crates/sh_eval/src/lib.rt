@@ -4,6 +4,7 @@
 
 mod constants;
 mod creators;
+mod devices;
 mod elements;
 mod evaluation;
 mod extents;
@@ -25,9 +26,10 @@ mod values;
 mod work;
 
 pub use constants::{constant, undefined};
+pub use devices::{can_run_laws, collective_laws, local_laws, scope_laws};
 pub use elements::{element_of_one, element_of_three, element_of_two};
 pub use evaluation::{OpSeat, eval_borrowed, eval_op};
 pub use functions::{Evaluated, eval_func, returned};
-pub use laws::{can_evaluate_laws, can_run_laws};
+pub use laws::can_evaluate_laws;
 pub use local::{axes_on, step_local};
 pub use sh_loops::Formula;
