@@ -1,5 +1,5 @@
 -- What holds of all parts of a list holds of each.
-use Rattle.std.proofs.Common.{◌≡◌, ℕ, zero, suc, ◌<◌, Bool, true, List, [], ◌∷◌, ◌++◌, map, length, get_or, Option, Some, None, refl, arith, subst}
+use Rattle.std.proofs.Common.{◌≡◌, ℕ, zero, suc, Bool, true, List, [], ◌∷◌, ◌++◌, map, Option, Some, None, refl, arith, subst}
 use Rattle.std.specs.Prelude.{IfSome, IsSomeAnd, MatchOption, ⊤, flat_map, filter_map, option_map, slice_get}
 use Rattle.std.proofs.lemmas.Option.{none-some, same_Some}
 use Rattle.std.specs.List.{All, AllByRecursion, cons_option, list_all}

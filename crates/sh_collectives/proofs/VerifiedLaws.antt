@@ -4,7 +4,6 @@ use Rattle.std.proofs.lemmas.Option.{none-some, same_Some}
 use Rattle.std.specs.List.{AllByRecursion, list_all}
 use Rattle.std.specs.Option.{option_map_or}
 use Rattle.std.specs.Prelude.{MatchOption, ⊤, flat_map, if◌then◌else◌, nat_eq, slice_get}
-use Rattle.sh_base.specs.declared.places.Refusal.{Refusal}
 use Rattle.sh_base.specs.declared.rules.Rule.{Rule}
 use Rattle.sh_base.specs.declared.rules.Rule.TheVariants.{L4}
 use Rattle.sh_ir.specs.declared.bodies.Body.{Body}
@@ -13,7 +12,6 @@ use Rattle.sh_ir.specs.declared.functions.Arg.{Arg}
 use Rattle.sh_ir.specs.declared.functions.Func.{Func}
 use Rattle.sh_ir.specs.declared.modules.Module.{Module}
 use Rattle.sh_ir.specs.declared.operations.Op.{Op}
-use Rattle.sh_ir.specs.declared.types.ValueType.{ValueType}
 use Rattle.sh_ir.specs.Faults.{KeepsModule, call_faults, faults_by, func_faults, funcs_faults, grid_faults, keeps_func, return_faults}
 use Rattle.sh_ir.specs.Formed.{Captures, Defines, IsFormed, OperandsFit, ResultFits, all_written, bodies_in, body_ops_of, call_constants, cuts_in, func_types, is_block, is_scalar, is_spelled_type, op_texts, op_types, ops_of, types_in}
 use Rattle.sh_ir.specs.Limits.{has_few_cells}
@@ -22,7 +20,7 @@ use Rattle.sh_ir.specs.Rules.{KeepsOp, KeepsOps, faults_at, op_types_of, ops_fau
 use Rattle.sh_ir.specs.Scope.{Scope, Value, plain_value, scope_after, scope_of, value_named, value_of, with_args}
 use Rattle.sh_ir.specs.Written.{Written, written_by, written_in_body}
 use Rattle.sh_ir.proofs.KeptLaws.{kept_first, kept_rest, left_empty, right_empty, scope_behind}
-use Rattle.sh_sharding.proofs.Cases.{and_left, and_right}
+use Rattle.sh_sharding.proofs.Cases.{and_right}
 use Rattle.sh_collectives.specs.DeviceForms.{IsVerifiedFunc}
 use Rattle.sh_collectives.specs.VerifiedOps.{HaveScalarConstants, IsBody, IsBodyOp, IsOfVerifiedOp}
 use Rattle.sh_collectives.proofs.RuleLaws.{all_front, no_fault}

@@ -11,7 +11,6 @@ use Rattle.sh_base.specs.declared.numbers.Width.{Width}
 use Rattle.sh_base.specs.declared.operations.Kind.{Kind}
 use Rattle.sh_collectives.proofs.MemberLaws.{all_by, all_pass, at_place}
 use Rattle.sh_collectives.proofs.RuleLaws.{never, sound}
-use Rattle.sh_collectives.specs.VerifiedOps.{IsOfVerifiedOp}
 use Rattle.sh_collectives.specs.Ways.{dims_worked}
 use Rattle.sh_int.specs.Reduction.{combine_of}
 use Rattle.sh_int.proofs.ReductionLaws.{combine_laws}
@@ -40,11 +39,10 @@ use Rattle.sh_sem.specs.Steps.{is_collective_class}
 use Rattle.sh_sem.specs.Types.{have_extents}
 use Rattle.sh_tensor.specs.Tensor.{IsTensor, TensorValue, at, build, slice_of}
 use Rattle.sh_tensor.proofs.TensorLaws.{IsTensor-build}
-use Rattle.sh_turns.specs.Program.{all_there}
-use Rattle.sh_eval.specs.Devices.{AreGroupOperands, IsInstructionOf, operand_of, operand_type, shape_collected}
+use Rattle.sh_collectives.specs.Operands.{AreGroupOperands, shape_collected}
+use Rattle.sh_eval.specs.Devices.{IsInstructionOf, operand_of, operand_type}
 use Rattle.sh_eval.specs.Sources.{HaveTypes, IsOfValueType, has_value}
 use Rattle.sh_eval.specs.Values.{IsFew}
-use Rattle.sh_eval.specs.VerifiedOps.{GivesTensor}
 use Rattle.sh_eval.proofs.CellFits.{IsBuilt, all_at, at_within}
 use Rattle.sh_eval.proofs.Evaluable.{IsCollective}
 use Rattle.sh_eval.proofs.OperandLaws.{operands_named}

@@ -1,5 +1,5 @@
 -- Instructions of a verified function in device form can be run where they are reached: their operands are there and of their types, on each device.
-use Rattle.std.proofs.Common.{◌≡◌, ℕ, zero, suc, ◌+◌, ◌<◌, Bool, true, false, List, [], ◌∷◌, map, take, length, get_or, Option, Some, None, refl, ap, sym, ◌∙◌, arith, subst}
+use Rattle.std.proofs.Common.{◌≡◌, ℕ, zero, suc, ◌<◌, Bool, true, false, List, [], ◌∷◌, map, take, Option, Some, None, refl, ap, sym, ◌∙◌, arith, subst}
 use Rattle.std.proofs.lemmas.Option.{none-some, same_Some}
 use Rattle.std.specs.List.{All, AllByRecursion}
 use Rattle.std.specs.Prelude.{fold, IfSome, IsSome, IsSomeAnd, if◌then◌else◌, not, option_and_then, slice_get}
@@ -9,7 +9,6 @@ use Rattle.sh_collectives.proofs.InstructionLaws.{device_op, instructions_in, pl
 use Rattle.sh_collectives.proofs.MemberLaws.{all_found}
 use Rattle.sh_collectives.proofs.VerifiedLaws.{verified_op}
 use Rattle.sh_collectives.specs.DeviceForms.{IsOfDevice}
-use Rattle.sh_collectives.specs.VerifiedOps.{IsOfVerifiedOp}
 use Rattle.sh_grid.specs.Grid.{group_of, place_in}
 use Rattle.sh_ir.proofs.KeptLaws.{scope_behind}
 use Rattle.sh_ir.specs.Classes.{class_of, is_return_class}
@@ -19,18 +18,17 @@ use Rattle.sh_ir.specs.declared.classification.OpClass.{OpClass}
 use Rattle.sh_ir.specs.declared.classification.OpClass.TheVariants as class
 use Rattle.sh_ir.specs.declared.functions.Func.{Func}
 use Rattle.sh_ir.specs.declared.operations.Op.{Op}
-use Rattle.sh_ir.specs.declared.types.ValueType.{ValueType}
 use Rattle.sh_pieces.specs.Instructions.{State, gives, is_name}
 use Rattle.sh_pieces.specs.Runs.{next_state, state_after}
 use Rattle.sh_sem.proofs.Groups.{has_groups}
 use Rattle.sh_sem.specs.Collected.{collected}
 use Rattle.sh_sem.specs.Given.{Seat, given, shape_given}
 use Rattle.sh_sem.specs.Meaning.{Values, with_value}
-use Rattle.sh_sem.specs.Scalars.{width_of}
 use Rattle.sh_sem.specs.Steps.{axes_of, device_function, is_collective_class, seat_of, steps_on}
 use Rattle.sh_tensor.specs.Tensor.{TensorValue}
 use Rattle.sh_turns.specs.Program.{all_there}
-use Rattle.sh_eval.specs.Devices.{AreGroupOperands, AreLocalArguments, CanGive, CanRunOn, GivesFewAlong, GoesOn, HasFewOn, HasScope, IsInstructionOf, IsReachedAt, IsScopeAt, group_operands, operand_of, operand_type, shape_collected, shape_on, values_at}
+use Rattle.sh_collectives.specs.Operands.{AreGroupOperands, shape_collected}
+use Rattle.sh_eval.specs.Devices.{AreLocalArguments, CanGive, CanRunOn, GivesFewAlong, GoesOn, HasFewOn, HasScope, IsInstructionOf, IsReachedAt, IsScopeAt, group_operands, operand_of, operand_type, values_at}
 use Rattle.sh_eval.specs.Evaluations.{CanEvaluate}
 use Rattle.sh_eval.specs.Sources.{AreOfValueTypes, HaveTypes, IsOfValueType}
 use Rattle.sh_eval.specs.Reached.{values_at_start}
@@ -40,7 +38,6 @@ use Rattle.sh_eval.proofs.CollectedTypes.{are_group_operands, collective_kind, g
 use Rattle.sh_eval.proofs.Evaluable.{can_evaluate}
 use Rattle.sh_eval.proofs.OperandLaws.{all_types, operands_there}
 use Rattle.sh_eval.proofs.ResultTypes.{result_typed}
-use Rattle.sh_eval.proofs.RuleFacts.{sound_result}
 use Rattle.sh_eval.proofs.TypeLaws.{Found}
 use Rattle.sh_eval.proofs.TypingLaws.{args_typed, own_after}
 

@@ -1,11 +1,10 @@
 -- Functions in device form, run on all devices of a grid: the instructions that are reached, and
 -- what is so of each there.
-use Rattle.std.specs.Prelude.{◌≡◌, ℕ, suc, ◌<◌, true, false, List, fold, length, map, take, slice_get, Option, Some, IfSome, IsSome, IsSomeAnd, option_and_then, if◌then◌else◌}
-use Rattle.std.specs.List.{All}
+use Rattle.std.specs.Prelude.{◌≡◌, ℕ, suc, ◌<◌, true, false, List, fold, map, take, slice_get, Option, Some, IfSome, IsSome, IsSomeAnd, option_and_then, if◌then◌else◌}
 use Rattle.sh_base.specs.Shape.{cell_count}
 use Rattle.sh_collectives.specs.DeviceForms.{IsOfDevice}
 use Rattle.sh_collectives.specs.VerifiedOps.{IsOfVerifiedOp}
-use Rattle.sh_collectives.specs.Ways.{dims_worked}
+use Rattle.sh_collectives.specs.Operands.{AreGroupOperands, shape_collected}
 use Rattle.sh_eval.specs.Evaluations.{CanEvaluate}
 use Rattle.sh_eval.specs.Sources.{AreOfValueTypes, IsOfValueType}
 use Rattle.sh_eval.specs.Values.{IsFew, shapes_of}
@@ -20,10 +19,8 @@ use Rattle.sh_ir.specs.declared.functions.Func.{Func}
 use Rattle.sh_ir.specs.declared.operations.Op.{Op}
 use Rattle.sh_pieces.specs.Instructions.{State, gives}
 use Rattle.sh_pieces.specs.Runs.{state_before}
-use Rattle.sh_sem.specs.Collected.{shapes_collected}
 use Rattle.sh_sem.specs.Given.{Seat, given, shape_given}
 use Rattle.sh_sem.specs.Meaning.{Values}
-use Rattle.sh_sem.specs.Scalars.{width_of}
 use Rattle.sh_sem.specs.Steps.{axes_of, device_function, is_collective_class, seat_of, steps_on}
 use Rattle.sh_tensor.specs.Tensor.{TensorValue}
 use Rattle.sh_turns.specs.Program.{all_there}
@@ -73,11 +70,6 @@ abbrev pub group_operands : List ℕ → Op → State TensorValue → ℕ → Op
 group_operands grid op s c =
     all_there (map (λ m. operand_of op (s m)) (group_of grid (axes_of op.kind) c))
 
--- the shape of what a collective gives at a place of a group
-abbrev pub shape_collected : List ℕ → Op → ℕ → List TensorValue → Option (List ℕ)
-shape_collected grid op place ts =
-    option_and_then (λ ss. slice_get ss place) (shapes_collected op grid (map (λ t. t.shape) ts))
-
 -- the shape of what an instruction gives on a device, by the shapes of its operands
 abbrev pub shape_on : List ℕ → Op → State TensorValue → ℕ → Option (List ℕ)
 shape_on grid op s c =
@@ -90,11 +82,6 @@ shape_on grid op s c =
 -- what it gives has few cells on each device
 abbrev pub HasFewOn : List ℕ → Op → State TensorValue → Type 0
 HasFewOn grid op s = (c : ℕ) → c < cell_count grid → IfSome (shape_on grid op s c) IsFew
-
--- operands of a group for a collective: they have the dimensions along which it works and its width
-pub record AreGroupOperands (op : Op) (ts : List TensorValue) : Type 0 where
-  pub dims : All (λ a. All (λ s. a < length s) (map (λ t. t.shape) ts)) (dims_worked op.kind)
-  pub widths : All (λ t. t.width ≡ width_of op.result) ts
 
 -- The operands of an instruction are there on a device, and it can be done on them; what it gives is
 -- of the type of its value.

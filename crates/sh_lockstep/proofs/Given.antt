@@ -13,7 +13,8 @@ use Rattle.sh_sem.specs.Collected.{collected}
 use Rattle.sh_sem.specs.Steps.{axes_of, steps_on}
 use Rattle.sh_tensor.specs.Tensor.{TensorValue}
 use Rattle.sh_turns.specs.Program.{all_there}
-use Rattle.sh_lockstep.specs.Steps.{AreCollectable, CanStepOn, operand_on}
+use Rattle.sh_eval.specs.Devices.{operand_of}
+use Rattle.sh_lockstep.specs.Steps.{AreCollectable, CanStepOn}
 
 -- values that are all there are as many
 more_there : {V : Type 0} (v : V) (vs : List (Option V)) (o : Option (List V)) (ts : List V)
@@ -39,14 +40,14 @@ module _ (grid : List ℕ) (op : Op) (s : State TensorValue) (device : ℕ) wher
   pub gives_collective : (steps_on grid).is_collective op ≡ true
       → gives (steps_on grid) op s device
       ≡ option_and_then (λ ts. collected op grid ts (place_in grid (axes_of op.kind) device))
-      (all_there (map (λ m. operand_on op (s m)) (group_of grid (axes_of op.kind) device)))
+      (all_there (map (λ m. operand_of op (s m)) (group_of grid (axes_of op.kind) device)))
   unfolding steps_on
   gives_collective h = rw h refl
 
   -- the operands of a group, where they are there
   pub collectable : (ts : List TensorValue) (place : ℕ) → CanStepOn grid op s device
       → (steps_on grid).is_collective op ≡ true
-      → all_there (map (λ m. operand_on op (s m)) (group_of grid (axes_of op.kind) device)) ≡ Some ts
+      → all_there (map (λ m. operand_of op (s m)) (group_of grid (axes_of op.kind) device)) ≡ Some ts
       → place ≡ place_in grid (axes_of op.kind) device → AreCollectable grid op place ts
   collectable ts place can h there is =
       subst (λ p. AreCollectable grid op p ts) (sym is)
@@ -54,14 +55,14 @@ module _ (grid : List ℕ) (op : Op) (s : State TensorValue) (device : ℕ) wher
 
   -- and a collective can make the result at the device's place of them
   pub collects : AreAxesOf (length grid) (axes_of op.kind) → device < cell_count grid → (ts : List TensorValue) (place : ℕ)
-      → all_there (map (λ m. operand_on op (s m)) (group_of grid (axes_of op.kind) device)) ≡ Some ts
+      → all_there (map (λ m. operand_of op (s m)) (group_of grid (axes_of op.kind) device)) ≡ Some ts
       → place ≡ place_in grid (axes_of op.kind) device → AreCollectable grid op place ts
       → CanCollect op.kind grid (map (λ t. t.shape) ts) place
   collects axes on ts place there is given =
       let long : length (map (λ (t : TensorValue). t.shape) ts) ≡ group_size_of grid (axes_of op.kind) =
       length-map ts (λ (t : TensorValue). t.shape)
-      ∙ there_length (map (λ m. operand_on op (s m)) (group_of grid (axes_of op.kind) device)) ts there
-      ∙ length-map (group_of grid (axes_of op.kind) device) (λ m. operand_on op (s m))
+      ∙ there_length (map (λ m. operand_of op (s m)) (group_of grid (axes_of op.kind) device)) ts there
+      ∙ length-map (group_of grid (axes_of op.kind) device) (λ m. operand_of op (s m))
       ∙ length-group_of grid (axes_of op.kind) device in
       let below = place_in-below grid (axes_of op.kind) device on axes in
-      record { axes = axes; counted = long; within = omega (arith, long, below, is); dims = given.dims }
+      record { axes = axes; counted = long; within = omega (arith, long, below, is); dims = given.operands.dims }

@@ -6,4 +6,5 @@ pub mod Progress
 pub mod Starts
 pub mod Locked
 pub mod Verified
+mod DeviceExample
 mod Examples

@@ -11,7 +11,8 @@ use Rattle.sh_collectives.specs.Operands.{IsSmall}
 use Rattle.sh_collectives.specs.Sizes.{is_small}
 use Rattle.sh_eval.proofs.DeviceWalk.{can_run_reached}
 use Rattle.sh_eval.proofs.TypeLaws.{typed_long}
-use Rattle.sh_eval.specs.Devices.{AreGroupOperands, AreLocalArguments, CanRunOn, GivesFewAlong, HasFewOn, group_operands, operand_of, shape_collected, shape_on, values_at}
+use Rattle.sh_collectives.specs.Operands.{AreGroupOperands, shape_collected}
+use Rattle.sh_eval.specs.Devices.{AreLocalArguments, CanRunOn, GivesFewAlong, HasFewOn, group_operands, operand_of, shape_on, values_at}
 use Rattle.sh_eval.specs.Evaluations.{CanEvaluate}
 use Rattle.sh_eval.specs.Values.{IsFew, shapes_of}
 use Rattle.sh_grid.specs.Grid.{group_of, place_in}
@@ -30,7 +31,8 @@ use Rattle.sh_tensor.specs.Tensor.{TensorValue}
 use Rattle.sh_turns.specs.Program.{all_there}
 use Rattle.sh_lockstep.specs.Behind.{AreAlike, CanLock, IsBehind, arguments_in}
 use Rattle.sh_lockstep.specs.Groups.{HasOneList}
-use Rattle.sh_lockstep.specs.Steps.{AreCollectable, CanStepOn, operand_on}
+use Rattle.sh_eval.specs.Devices.{operand_of}
+use Rattle.sh_lockstep.specs.Steps.{AreCollectable, CanStepOn}
 use Rattle.sh_lockstep.proofs.Alike.{group_alike, row_alike}
 
 one_list : (kind : OpKind) → ((x : declared_halo.UpdateHalo) → kind ≡ UpdateHalo x → ⊥) → HasOneList kind
@@ -60,7 +62,7 @@ module _ (grid : List ℕ) (op : Op) (s t : State TensorValue) (alike : AreAlike
   same_row = row_alike (steps_on grid) s t alike c below op.operands
 
   same_group : is_collective_class (class_of op.kind) ≡ true
-      → map (λ m. operand_on op (s m)) (group_of grid (axes_of op.kind) c) ≡ map (λ m. operand_of op (t m)) (group_of grid (axes_of op.kind) c)
+      → map (λ m. operand_of op (s m)) (group_of grid (axes_of op.kind) c) ≡ map (λ m. operand_of op (t m)) (group_of grid (axes_of op.kind) c)
   unfolding steps_on
   same_group e = group_alike (steps_on grid) s t alike op (group_of grid (axes_of op.kind) c) ((has_groups grid).inside op c below e)
 
@@ -76,7 +78,7 @@ module _ (grid : List ℕ) (op : Op) (s t : State TensorValue) (alike : AreAlike
         go (Some ts) h = h
 
     step_collective : is_collective_class (class_of op.kind) ≡ true
-        → IfSome (all_there (map (λ m. operand_on op (s m)) (group_of grid (axes_of op.kind) c)))
+        → IfSome (all_there (map (λ m. operand_of op (s m)) (group_of grid (axes_of op.kind) c)))
         (AreCollectable grid op (place_in grid (axes_of op.kind) c))
     step_collective e =
         subst (λ vs. IfSome (all_there vs) (AreCollectable grid op (place_in grid (axes_of op.kind) c))) (sym (same_group e))
@@ -95,7 +97,7 @@ module _ (grid : List ℕ) (op : Op) (s t : State TensorValue) (alike : AreAlike
         go : (o : Option (List TensorValue)) → IsSomeAnd o (AreGroupOperands op) → IfSome (option_and_then (shape_collected grid op place) o) IsFew
             → IfSome o (AreCollectable grid op place)
         go None h k = tt
-        go (Some ts) h k = record { dims = h.dims; widths = h.widths; small = shape_small (shape_collected grid op place ts) k }
+        go (Some ts) h k = record { operands = h; small = shape_small (shape_collected grid op place ts) k }
 
     can_step : CanStepOn grid op s c
     unfolding steps_on

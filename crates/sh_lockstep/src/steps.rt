@@ -2,7 +2,8 @@ ghost use Rattle.std.specs.Prelude.{◌≡◌, ◌<◌, ℕ, IfOk, List, false, 
 ghost use Rattle.sh_base.specs.Shape.{cell_count};
 ghost use Rattle.sh_grid.specs.Grid.{AreAxesOf, group_of};
 ghost use Rattle.sh_lockstep.specs.Rows.{IsRow};
-ghost use Rattle.sh_lockstep.specs.Steps.{CanStepOn, CanStepOnAll, operand_on};
+ghost use Rattle.sh_eval.specs.Devices.{operand_of};
+ghost use Rattle.sh_lockstep.specs.Steps.{CanStepOn, CanStepOnAll};
 ghost use Rattle.sh_lockstep.specs.Tables.{values_in};
 ghost use Rattle.sh_pieces.specs.Instructions.{gives};
 ghost use Rattle.sh_sem.specs.Steps.{axes_of, steps_on};
@@ -48,7 +49,7 @@ pub(crate) fn operands<'s>(
 
 /// What a device gives to a collective.
 fn operand<'s>(table: &'s Table, op: &Op, device: u64) -> Option<&'s Tensor>
-    ensures { option_map (λ t. t.now) result ≡ operand_on op.now (values_in table.now device) }
+    ensures { option_map (λ t. t.now) result ≡ operand_of op.now (values_in table.now device) }
 {
     match op.operands.get(0) {
         Some(name) => table.get(device, *name),
@@ -68,7 +69,7 @@ fn group_operands<'s>(
     requires axes { AreAxesOf (length g.now.extents) axes.now }
     requires device { device < cell_count g.now.extents }
     ensures { IfOk result (λ out. option_map (λ ts. map (λ t. t.now) ts.items) out
-        ≡ all_there (map (λ m. operand_on op.now (values_in table.now m))
+        ≡ all_there (map (λ m. operand_of op.now (values_in table.now m))
         (group_of g.now.extents axes.now device))) }
 {
     let mut ts: Vec<&'s Tensor> = Vec::new(alloc);

@@ -74,7 +74,7 @@ uses_earlier : (s : Source) → IsRunnable s → UsesEarlier (steps_on s.grid.ex
 unfolding steps_on
 uses_earlier s can k op here collective =
     let i = can.instructions k op here in
-    first_known (names_at s k) op.operands i.known (i.some collective)
+    first_known (names_at s k) op.operands i.order.known (i.order.some collective)
 
 have_arguments : (s : Source) → IsRunnable s → HaveArguments (steps_on s.grid.extents) (device_function s.function).parameters (λ device. get_or s.arguments device [])
 unfolding steps_on

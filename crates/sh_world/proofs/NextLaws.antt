@@ -90,14 +90,14 @@ module _ (s : Source) (states : List State) (c : ℕ) (state : State) (i : Instr
   takes_here b waits = at_device ∙ turn_takes s (map device_of states) c i.op.now (device_of state) next.op b waits
 
   pub some_places : is_collective_class (class_of i.op.now.kind) ≡ true → 0 < length i.places.items
-  some_places b = omega (arith, next.asked.some b, as_many_places (names_at s state.next) i.op.now.operands i.places.items next.places)
+  some_places b = omega (arith, next.asked.order.some b, as_many_places (names_at s state.next) i.op.now.operands i.places.items next.places)
 
   pub posts_here : is_collective_class (class_of i.op.now.kind) ≡ true → state.waits ≡ false → (d : ℕ)
       → turn_of (program_of s) (map device_of states) c (device_at (map device_of states) c)
       ≡ (Posted, with_post (device_of state) (tensor_at state.values.items (get_or i.places.items 0 d)))
   posts_here b free d =
       at_device ∙ turn_posts s (map device_of states) c i.op.now (device_of state) next.op b free
-      ∙ ap (post_turn (device_of state)) (first_value (names_at s state.next) state.values.items i.op.now.operands i.places.items d next.values next.places (next.asked.some b))
+      ∙ ap (post_turn (device_of state)) (first_value (names_at s state.next) state.values.items i.op.now.operands i.places.items d next.values next.places (next.asked.order.some b))
 
   module _ (can : Op → List ℕ → ℕ → List TensorValue → Type 0) (able : CanTurn can s (map device_of states) c) where
     pub can_step_here : is_collective_class (class_of i.op.now.kind) ≡ false → can i.op.now s.grid.extents c (map (tensor_at state.values.items) i.places.items)

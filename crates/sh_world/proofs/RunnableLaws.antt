@@ -12,8 +12,7 @@ pub is_runnable : (s : Source) → IsOfDevice s.function s.grid.extents → HasN
     → All (λ (ts : List TensorValue). length ts ≡ length s.function.args) s.arguments → IsRunnable s
 is_runnable s d plain devices arguments = record {
   instructions = λ k op at.
-      let i = in_order s.function s.grid.extents d k op at in
-      record { known = i.known; some = i.some; axes = i.axes; described = λ x is. plain k op x at is };
+      record { order = in_order s.function s.grid.extents d k op at; described = λ x is. plain k op x at is };
   devices = devices;
   arguments = arguments;
 }

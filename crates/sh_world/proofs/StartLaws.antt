@@ -36,7 +36,7 @@ instructions_are s = refl
 
 pub knows_operands : (s : Source) → IsRunnable s → KnowsOperands (map (λ a. a.id) s.function.args) (without_return s.function.ops)
 unfolding device_function steps_on
-knows_operands s can k op here = (can.instructions k op here).known
+knows_operands s can k op here = (can.instructions k op here).order.known
 
 placed_at : (ids : List ℕ) (ops : List Op) (is : List Instruction) → AllArePlaced ids ops (length ops) is → (k : ℕ) → k < length is → (d : Op) → get_or ops k d ≡ get_or (map (λ i. i.op.now) is) k d
 placed_at ids ops [] all k lt d = absurd (omega arith)

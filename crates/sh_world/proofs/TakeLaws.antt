@@ -27,4 +27,4 @@ can_collect op grid c instruction number w ts place axes posted below can =
     let get : ℕ → Option TensorValue = λ m. posted_for instruction (slice_get (device_at w m).posts number) in
     let counted : length (map (λ (t : TensorValue). t.shape) ts) ≡ group_size_of grid (axes_of op.kind) =
     length-map ts (λ (t : TensorValue). t.shape) ∙ as_many_there get (group_of grid (axes_of op.kind) c) ts posted ∙ length-group_of grid (axes_of op.kind) c in
-    record { axes = axes; counted = counted; within = omega (arith, below, counted); dims = can.dims }
+    record { axes = axes; counted = counted; within = omega (arith, below, counted); dims = can.operands.dims }

@@ -2,7 +2,8 @@
 -- of turns for which a world stands.
 use Rattle.std.specs.Prelude.{◌≡◌, ℕ, ◌<◌, List, [], All, length, map, Option, Some, IsSome, slice_get, slice_index_or, true}
 use Rattle.sh_base.specs.Shape.{cell_count}
-use Rattle.sh_grid.specs.Grid.{GridValue, AreAxesOf}
+use Rattle.sh_collectives.specs.DeviceForms.{IsInOrder}
+use Rattle.sh_grid.specs.Grid.{GridValue}
 use Rattle.sh_ir.specs.declared.functions.Func.{Func}
 use Rattle.sh_ir.specs.declared.operations.Op.{Op}
 use Rattle.sh_ir.specs.declared.operations.OpKind.TheVariants.{UpdateHalo}
@@ -54,12 +55,7 @@ AfterTurns m Holds =
 
 -- what is asked of an instruction behind values of these names
 pub record IsInstruction (grid : List ℕ) (names : List (Option ℕ)) (op : Op) : Type 0 where
-  -- its operands are among them
-  pub known : IsSome (all_there (map (last_place names) op.operands))
-  -- a collective has an operand
-  pub some : is_collective_class (class_of op.kind) ≡ true → 0 < length op.operands
-  -- it stands along axes of the grid
-  pub axes : AreAxesOf (length grid) (axes_of op.kind)
+  pub order : IsInOrder grid names op
   -- what an exchange of halos gives isn't described yet
   pub described : (x : declared_halo.UpdateHalo) → op.kind ≡ UpdateHalo x → ⊥
 

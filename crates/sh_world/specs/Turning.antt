@@ -1,7 +1,6 @@
 -- What a turn asks of its operands, and what it does to a device.
 use Rattle.std.specs.Prelude.{◌≡◌, ℕ, ◌+◌, ◌-◌, ◌^◌, ◌<◌, List, All, length, map, Option, Some, option_and_then, slice_get, true, false, vec_len, vec_capacity}
-use Rattle.sh_collectives.specs.Operands.{IsSmall}
-use Rattle.sh_collectives.specs.Ways.{dims_worked}
+use Rattle.sh_collectives.specs.Operands.{AreGroupOperands, IsSmall, shape_collected}
 use Rattle.sh_grid.specs.Grid.{group_of, place_in}
 use Rattle.sh_ir.specs.declared.operations.Op.{Op}
 use Rattle.sh_ir.specs.Classes.{class_of}
@@ -32,13 +31,10 @@ posted_in grid op c instruction number w =
     all_there (map (λ m. posted_for instruction (slice_get (device_at w m).posts number))
     (group_of grid (axes_of op.kind) c))
 
--- tensors of a group that a collective can collect at a place: they have the dimensions along which
--- it works and its width, and what it gives has few cells
+-- tensors of a group that a collective can collect at a place, and what it gives has few cells
 pub record CanTake (op : Op) (grid : List ℕ) (ts : List TensorValue) (place : ℕ) : Type 0 where
-  pub dims : All (λ a. All (λ s. a < length s) (map (λ t. t.shape) ts)) (dims_worked op.kind)
-  pub widths : All (λ t. t.width ≡ width_of op.result) ts
-  pub small : IsSmall (option_and_then (λ ss. slice_get ss place)
-      (shapes_collected op grid (map (λ t. t.shape) ts)))
+  pub operands : AreGroupOperands op ts
+  pub small : IsSmall (shape_collected grid op place ts)
 
 -- the operands of a device's turn are ones that it can take
 pub record CanTurn (can : Op → List ℕ → ℕ → List TensorValue → Type 0) (s : Source)

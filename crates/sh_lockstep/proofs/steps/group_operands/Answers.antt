@@ -2,7 +2,7 @@ use Rattle.std.proofs.Common.{ℕ, ◌+◌, List, [], ◌∷◌, map, ap, sym, �
 use Rattle.std.proofs.lemmas.List.{map-append}
 use Rattle.std.specs.Prelude.{Option, option_map}
 use Rattle.sh_grid.specs.Grid.{group_size_of, member_of}
-use Rattle.sh_lockstep.specs.Steps.{operand_on}
+use Rattle.sh_eval.specs.Devices.{operand_of}
 use Rattle.sh_lockstep.specs.Tables.{values_in}
 use Rattle.sh_tensor.specs.declared.tensors.Tensor.{Tensor}
 use Rattle.sh_tensor.specs.Tensor.{TensorValue}
@@ -12,7 +12,7 @@ use Rattle.sh_lockstep.proofs.steps.group_operands.Goals as goal
 
 pub returns-in-None : goal.returns-in-None
 returns-in-None c =
-    let f : ℕ → Option TensorValue = λ m. operand_on c.args.op.now (values_in c.args.table.now m) in
+    let f : ℕ → Option TensorValue = λ m. operand_of c.args.op.now (values_in c.args.table.now m) in
     let g : ℕ → Option TensorValue = λ p. f (member_of c.args.g.now.extents c.args.axes.now c.args.device p) in
     lacks g (group_size_of c.args.g.now.extents c.args.axes.now) c.loop-place.place (map (λ t. t.now) c.loop-place.ts.items) _
     (omega (arith, c.loop-place-test.true, c.group_size-place-end.ensures.value))
@@ -22,7 +22,7 @@ returns-in-None c =
 
 pub loop-place-preserved : goal.loop-place-preserved
 loop-place-preserved c =
-    let f : ℕ → Option TensorValue = λ m. operand_on c.args.op.now (values_in c.args.table.now m) in
+    let f : ℕ → Option TensorValue = λ m. operand_of c.args.op.now (values_in c.args.table.now m) in
     let g : ℕ → Option TensorValue = λ p. f (member_of c.args.g.now.extents c.args.axes.now c.args.device p) in
     let whole = group_size_of c.args.g.now.extents c.args.axes.now in
     let vs = map (λ (t : Bor Tensor). t.now) c.loop-place.ts.items in
@@ -35,7 +35,7 @@ loop-place-preserved c =
 
 pub returns : goal.returns
 returns c =
-    let f : ℕ → Option TensorValue = λ m. operand_on c.args.op.now (values_in c.args.table.now m) in
+    let f : ℕ → Option TensorValue = λ m. operand_of c.args.op.now (values_in c.args.table.now m) in
     let g : ℕ → Option TensorValue = λ p. f (member_of c.args.g.now.extents c.args.axes.now c.args.device p) in
     ends g (group_size_of c.args.g.now.extents c.args.axes.now) c.loop-place.place (map (λ t. t.now) c.loop-place.ts.items) _
     (omega (arith, c.loop-place-test.false, c.group_size-place-end.ensures.value))

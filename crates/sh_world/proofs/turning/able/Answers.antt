@@ -42,10 +42,10 @@ pub group_axes-axes-requires-clause-described : goal.group_axes-axes-requires-cl
 group_axes-axes-requires-clause-described c = (next (goal.at.group_axes-axes-requires-clause-described c).After-is_collective).asked.described
 
 pub group_axes-axes-requires-clause-axes : goal.group_axes-axes-requires-clause-axes
-group_axes-axes-requires-clause-axes c = (next (goal.at.group_axes-axes-requires-clause-axes c).After-is_collective).asked.axes
+group_axes-axes-requires-clause-axes c = (next (goal.at.group_axes-axes-requires-clause-axes c).After-is_collective).asked.order.axes
 
 pub all_posted-requires-clause-axes : goal.all_posted-requires-clause-axes
-all_posted-requires-clause-axes c = rw c.group_axes-axes.ensures (next (goal.at.all_posted-requires-clause-axes c).After-is_collective).asked.axes
+all_posted-requires-clause-axes c = rw c.group_axes-axes.ensures (next (goal.at.all_posted-requires-clause-axes c).After-is_collective).asked.order.axes
 
 pub returns : goal.returns
 returns c =

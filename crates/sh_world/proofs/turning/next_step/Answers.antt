@@ -31,7 +31,7 @@ pub local_step-requires-clause-places : goal.local_step-requires-clause-places
 local_step-requires-clause-places g c = here.places_here (source_of c.args.script.now c.args.states.now) c.args.states.now c.args.device c.args.state.now c.index-instruction.result.now (next g (goal.at.local_step-requires-clause-places g c).After-is_collective)
 
 pub local_step-requires-clause-axes : goal.local_step-requires-clause-axes
-local_step-requires-clause-axes g c = (next g (goal.at.local_step-requires-clause-axes g c).After-is_collective).asked.axes
+local_step-requires-clause-axes g c = (next g (goal.at.local_step-requires-clause-axes g c).After-is_collective).asked.order.axes
 
 pub local_step-requires-clause-can : goal.local_step-requires-clause-can
 local_step-requires-clause-can g c = here.can_step_here (source_of c.args.script.now c.args.states.now) c.args.states.now c.args.device c.args.state.now c.index-instruction.result.now (next g (goal.at.local_step-requires-clause-can g c).After-is_collective) g.S.LocalSteps.can c.requires.can (sym c.is_collective.ensures ∙ c.if-not-is_collective.true)
@@ -69,7 +69,7 @@ pub take_step-requires-clause-described : goal.take_step-requires-clause-describ
 take_step-requires-clause-described g c = (next g (goal.at.take_step-requires-clause-described g c).After-is_collective).asked.described
 
 pub take_step-requires-clause-axes : goal.take_step-requires-clause-axes
-take_step-requires-clause-axes g c = (next g (goal.at.take_step-requires-clause-axes g c).After-is_collective).asked.axes
+take_step-requires-clause-axes g c = (next g (goal.at.take_step-requires-clause-axes g c).After-is_collective).asked.order.axes
 
 pub take_step-requires-clause-can : goal.take_step-requires-clause-can
 take_step-requires-clause-can g c = here.can_take_here (source_of c.args.script.now c.args.states.now) c.args.states.now c.args.device c.args.state.now c.index-instruction.result.now (next g (goal.at.take_step-requires-clause-can g c).After-is_collective) g.S.LocalSteps.can c.requires.can c.if-not-state.false

@@ -38,7 +38,7 @@ collect_at-requires-clause-group c =
     c.place_in_group-place.result c.requires.axes (posted d) (rw (← c.group_axes-axes.ensures) c.place_in_group-place.ensures.below) (can d)
 
 pub collect_at-requires-clause-widths : goal.collect_at-requires-clause-widths
-collect_at-requires-clause-widths c = (can (goal.at.collect_at-requires-clause-widths c).After-as_slice).widths
+collect_at-requires-clause-widths c = (can (goal.at.collect_at-requires-clause-widths c).After-as_slice).operands.widths
 
 pub collect_at-requires-clause-small : goal.collect_at-requires-clause-small
 collect_at-requires-clause-small c = (can (goal.at.collect_at-requires-clause-small c).After-as_slice).small
