@@ -1,10 +1,12 @@
 -- A function in device form that keeps the limits and the rules, with extents that differ among devices: it can be run in step on parts of two sizes.
 use Rattle.std.proofs.Common.{◌≡◌, ℕ, zero, suc, ◌<◌, List, [], ◌∷◌, map, Option, Some, None, refl, ap, ◌∙◌, arith, subst, sym}
 use Rattle.std.proofs.lemmas.Option.{none-some, same_Some}
-use Rattle.std.specs.Prelude.{IfSome, codes, false, pos, slice_get}
+use Rattle.std.specs.Prelude.{IfSome, codes, false, get_or, pos, slice_get}
+use Rattle.std.specs.List.{AllByRecursion}
+use Rattle.sh_base.specs.Cells.{IsCellOf}
 use Rattle.sh_base.specs.Shape.{cell_count, flat_of}
 use Rattle.sh_base.specs.declared.numbers.Cell.{Cell}
-use Rattle.sh_base.specs.declared.numbers.Cell.TheVariants.{Val}
+use Rattle.sh_base.specs.declared.numbers.Cell.TheVariants.{Undef, Val}
 use Rattle.sh_base.specs.declared.numbers.Width.TheVariants.{I32}
 use Rattle.sh_base.specs.declared.places.Place.{Place}
 use Rattle.sh_collectives.specs.DeviceForms.{HasNoExchange, IsOfDevice}
@@ -32,7 +34,6 @@ use Rattle.sh_ir.specs.Results.{along, result_fits}
 use Rattle.sh_ir.specs.Rules.{calls_source, defines_new, has_region_in_order, is_in_form, keeps, names_known, op_faults, region_faults, takes_operands, uses_defined}
 use Rattle.sh_ir.specs.Scope.{group_size}
 use Rattle.sh_ir.specs.Typing.{counts_fit, tensor_types, typing_of}
-use Rattle.sh_loops.proofs.StructuredLaws.{got_within}
 use Rattle.sh_pieces.specs.Instructions.{at_instruction}
 use Rattle.sh_sem.specs.Collected.{collected, collecting, gathers, shapes_collected}
 use Rattle.sh_sem.specs.Given.{gives_piece, giving, shape_given}
@@ -41,7 +42,6 @@ use Rattle.sh_tensor.specs.Tensor.{IsTensor, TensorValue, at, cells_of}
 use Rattle.sh_eval.specs.Devices.{AreLocalArguments, GivesFewAlong, shape_on, values_at}
 use Rattle.sh_eval.specs.Values.{IsFew}
 use Rattle.sh_eval.proofs.AskedRules.{KeepsAsked, of_device}
-use Rattle.sh_eval.proofs.KindFits.{cells_held}
 use Rattle.sh_lockstep.specs.Behind.{CanLock, arguments_in}
 use Rattle.sh_lockstep.proofs.Verified.{can_lock}
 
@@ -174,18 +174,23 @@ vector n cells = record { shape = n ∷ []; width = I32; cells = cells }
 abbrev parts : List (List TensorValue)
 parts = (vector 2 (Val 10 ∷ Val 20 ∷ []) ∷ []) ∷ (vector 1 (Val 30 ∷ []) ∷ []) ∷ []
 
+cell_within : (cells : List Cell) (k : ℕ) → AllByRecursion (IsCellOf I32) cells → IsCellOf I32 (get_or cells k Undef)
+cell_within [] k h = tt
+cell_within (c ∷ cells) zero h = h.0
+cell_within (c ∷ cells) (suc k) h = cell_within cells k h.1
+
 first_whole : IsTensor (vector 2 (Val 10 ∷ Val 20 ∷ []))
 unfolding at
 first_whole = record {
   counted = refl;
-  fitting = λ i inside. got_within I32 (Val 10 ∷ Val 20 ∷ []) (flat_of (2 ∷ []) i) (cells_held I32 (Val 10 ∷ Val 20 ∷ []) refl);
+  fitting = λ i inside. cell_within (Val 10 ∷ Val 20 ∷ []) (flat_of (2 ∷ []) i) (omega arith, (omega arith, tt));
 }
 
 second_whole : IsTensor (vector 1 (Val 30 ∷ []))
 unfolding at
 second_whole = record {
   counted = refl;
-  fitting = λ i inside. got_within I32 (Val 30 ∷ []) (flat_of (1 ∷ []) i) (cells_held I32 (Val 30 ∷ []) refl);
+  fitting = λ i inside. cell_within (Val 30 ∷ []) (flat_of (1 ∷ []) i) (omega arith, tt);
 }
 
 are_local : AreLocalArguments func (2 ∷ []) (arguments_in parts)
