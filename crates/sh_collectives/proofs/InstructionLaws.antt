@@ -233,8 +233,7 @@ axes_by : (n : ℕ) (zs : List ℤ) → list_all (is_below n) zs ≡ true → ar
 axes_by n [] below distinct = tt
 axes_by n (z ∷ zs) below distinct =
     let here = and_right _ (nat_lt (as_natural z) n) (and_left (is_below n z) (list_all (is_below n) zs) below) in
-    let lt : as_natural z < n = grind (arith, nat_tests) in
-    (
+    let lt : as_natural z < n = grind (arith, nat_tests) in (
       lt,
       none_among (as_natural z) (as_naturals zs)
           (is_not (is_among (as_naturals zs) (as_natural z)) (and_left (not (is_among (as_naturals zs) (as_natural z))) (are_distinct (as_naturals zs)) distinct)),

@@ -208,8 +208,7 @@ widths_by_first : (first result : ValueType) (types : List ValueType) → list_a
 widths_by_first first result [] values value all one = tt
 widths_by_first first result (t ∷ types) values value all one =
     let here = both_left _ _ (both_left (same_rank_and_bits first t) (list_all (same_rank_and_bits first) types) all) in
-    let same : same_bits t result ≡ true = bits_by_first (cell_bits first) (cell_bits t) (cell_bits result) here one in
-    (
+    let same : same_bits t result ≡ true = bits_by_first (cell_bits first) (cell_bits t) (cell_bits result) here one in (
       width_by_bits t result (both_left (has_value t) (list_all has_value types) values) value same,
       widths_by_first first result types (both_right (has_value t) (list_all has_value types) values) value
           (both_right (same_rank_and_bits first t) (list_all (same_rank_and_bits first) types) all) one,
