@@ -1,10 +1,10 @@
 -- A function in device form that keeps the limits and the rules, with extents that differ among devices: it can be run in step on parts of two sizes.
-use Rattle.std.proofs.Common.{◌≡◌, ℕ, zero, suc, ◌<◌, List, [], ◌∷◌, map, Option, Some, None, refl, ap, ◌∙◌, arith, subst, sym}
+use Rattle.std.proofs.Common.{◌≡◌, ℕ, zero, suc, ◌<◌, List, [], ◌∷◌, Option, Some, None, refl, ap, ◌∙◌, arith, subst, sym}
 use Rattle.std.proofs.lemmas.Option.{none-some, same_Some}
-use Rattle.std.specs.Prelude.{IfSome, codes, false, get_or, pos, slice_get}
+use Rattle.std.specs.Prelude.{IfSome, codes, false, get_or, pos}
 use Rattle.std.specs.List.{AllByRecursion}
 use Rattle.sh_base.specs.Cells.{IsCellOf}
-use Rattle.sh_base.specs.Shape.{cell_count, flat_of}
+use Rattle.sh_base.specs.Shape.{flat_of}
 use Rattle.sh_base.specs.declared.numbers.Cell.{Cell}
 use Rattle.sh_base.specs.declared.numbers.Cell.TheVariants.{Undef, Val}
 use Rattle.sh_base.specs.declared.numbers.Width.TheVariants.{I32}
@@ -19,7 +19,6 @@ use Rattle.sh_ir.specs.declared.modules.Module.{Module}
 use Rattle.sh_ir.specs.declared.operations.Op.{Op}
 use Rattle.sh_ir.specs.declared.operations.OpKind.TheVariants as op_kind
 use Rattle.sh_ir.specs.declared.shard_ops.GridAxes.{GridAxes}
-use Rattle.sh_ir.specs.declared.shard_ops.UpdateHalo as declared_halo
 use Rattle.sh_ir.specs.declared.types.Dim.TheVariants.{Differs, Known}
 use Rattle.sh_ir.specs.declared.types.ValueType.{ValueType}
 use Rattle.sh_ir.specs.declared.types.ValueType.TheVariants as value_type
@@ -34,7 +33,6 @@ use Rattle.sh_ir.specs.Results.{along, result_fits}
 use Rattle.sh_ir.specs.Rules.{calls_source, defines_new, has_region_in_order, is_in_form, keeps, names_known, op_faults, region_faults, takes_operands, uses_defined}
 use Rattle.sh_ir.specs.Scope.{group_size}
 use Rattle.sh_ir.specs.Typing.{counts_fit, tensor_types, typing_of}
-use Rattle.sh_pieces.specs.Instructions.{at_instruction}
 use Rattle.sh_sem.specs.Collected.{collected, collecting, gathers, shapes_collected}
 use Rattle.sh_sem.specs.Given.{gives_piece, giving, shape_given}
 use Rattle.sh_sem.specs.Steps.{device_function, steps_on}

@@ -1,10 +1,9 @@
 -- How a program ends in step, by its first value that is lacking.
-use Rattle.std.proofs.Common.{◌≡◌, ℕ, zero, suc, ◌<◌, Bool, true, false, map, Option, Some, None, refl, ap, ◌∙◌, inl, inr, arith}
+use Rattle.std.proofs.Common.{◌≡◌, ℕ, zero, suc, ◌<◌, Bool, true, false, Option, Some, None, refl, ap, ◌∙◌, inl, inr, arith}
 use Rattle.std.specs.Prelude.{is_none, is_some, IsSome}
-use Rattle.std.specs.List.{range_with_len}
 use Rattle.std.proofs.lemmas.Bool.{cases_eq}
 use Rattle.sh_turns.specs.Program.{Program, value}
-use Rattle.sh_turns.specs.Lockstep.{Done, first_below, lacking, fault_at, results_of, outcome, lockstep}
+use Rattle.sh_turns.specs.Lockstep.{first_below, lacking, fault_at, outcome, lockstep}
 
 none_below : (t : ℕ → Bool) (n : ℕ) → ((k : ℕ) → k < n → t k ≡ false) → first_below t n ≡ None
 none_below t zero h = refl

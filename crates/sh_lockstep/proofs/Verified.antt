@@ -1,9 +1,9 @@
 -- A verified function in device form can be run in step.
-use Rattle.std.proofs.Common.{◌≡◌, ℕ, ◌<◌, ◌≤◌, Bool, true, false, List, [], ◌∷◌, map, max, length, get_or, Option, Some, None, refl, ap, ap₂, sym, ◌∙◌, arith, subst}
+use Rattle.std.proofs.Common.{◌≡◌, ℕ, ◌<◌, ◌≤◌, Bool, true, false, List, [], ◌∷◌, map, max, length, get_or, Option, Some, None, refl, ap₂, sym, ◌∙◌, arith, subst}
 use Rattle.std.proofs.lemmas.Bool.Decides.{nat_tests}
 use Rattle.std.proofs.lemmas.List.{length-map}
 use Rattle.std.proofs.lemmas.List.Elements.{All-from_get_or}
-use Rattle.std.specs.Prelude.{All, IfSome, IsSomeAnd, if◌then◌else◌, nat_le, option_and_then, slice_get}
+use Rattle.std.specs.Prelude.{IfSome, IsSomeAnd, if◌then◌else◌, option_and_then}
 use Rattle.sh_base.specs.Shape.{cell_count, max_cells}
 use Rattle.sh_collectives.proofs.InstructionLaws.{in_order, results_known}
 use Rattle.sh_collectives.specs.DeviceForms.{HasNoExchange, IsOfDevice}
@@ -12,7 +12,7 @@ use Rattle.sh_collectives.specs.Sizes.{is_small}
 use Rattle.sh_eval.proofs.DeviceWalk.{can_run_reached}
 use Rattle.sh_eval.proofs.TypeLaws.{typed_long}
 use Rattle.sh_collectives.specs.Operands.{AreGroupOperands, shape_collected}
-use Rattle.sh_eval.specs.Devices.{AreLocalArguments, CanRunOn, GivesFewAlong, HasFewOn, group_operands, operand_of, shape_on, values_at}
+use Rattle.sh_eval.specs.Devices.{AreLocalArguments, CanRunOn, GivesFewAlong, group_operands, operand_of, shape_on, values_at}
 use Rattle.sh_eval.specs.Evaluations.{CanEvaluate}
 use Rattle.sh_eval.specs.Values.{IsFew, shapes_of}
 use Rattle.sh_grid.specs.Grid.{group_of, place_in}
@@ -25,11 +25,11 @@ use Rattle.sh_ir.specs.declared.shard_ops.UpdateHalo as declared_halo
 use Rattle.sh_pieces.specs.Instructions.{State}
 use Rattle.sh_sem.proofs.Groups.{has_groups}
 use Rattle.sh_sem.specs.Given.{shape_given}
-use Rattle.sh_sem.specs.Steps.{axes_of, device_function, is_collective_class, seat_of, steps_on}
+use Rattle.sh_sem.specs.Steps.{axes_of, is_collective_class, seat_of, steps_on}
 use Rattle.sh_sharding.specs.Sharding.{counted_cells}
 use Rattle.sh_tensor.specs.Tensor.{TensorValue}
 use Rattle.sh_turns.specs.Program.{all_there}
-use Rattle.sh_lockstep.specs.Behind.{AreAlike, CanLock, IsBehind, arguments_in}
+use Rattle.sh_lockstep.specs.Behind.{AreAlike, CanLock, arguments_in}
 use Rattle.sh_lockstep.specs.Groups.{HasOneList}
 use Rattle.sh_eval.specs.Devices.{operand_of}
 use Rattle.sh_lockstep.specs.Steps.{AreCollectable, CanStepOn}

@@ -1,15 +1,12 @@
 -- Instructions that can be done on these values of all devices.
-use Rattle.std.specs.Prelude.{◌≡◌, ℕ, ◌<◌, true, false, List, length, map, slice_get, Option, IfSome, option_and_then}
-use Rattle.std.specs.List.{All}
+use Rattle.std.specs.Prelude.{◌≡◌, ℕ, ◌<◌, true, false, List, map, IfSome}
 use Rattle.sh_base.specs.Shape.{cell_count}
 use Rattle.sh_collectives.specs.Operands.{AreGroupOperands, IsSmall, shape_collected}
 use Rattle.sh_eval.specs.Devices.{group_operands}
 use Rattle.sh_eval.specs.Evaluations.{CanEvaluate}
-use Rattle.sh_grid.specs.Grid.{group_of, place_in}
+use Rattle.sh_grid.specs.Grid.{place_in}
 use Rattle.sh_ir.specs.declared.operations.Op.{Op}
 use Rattle.sh_pieces.specs.Instructions.{State}
-use Rattle.sh_sem.specs.Collected.{shapes_collected}
-use Rattle.sh_sem.specs.Scalars.{width_of}
 use Rattle.sh_sem.specs.Steps.{axes_of, seat_of, steps_on}
 use Rattle.sh_tensor.specs.Tensor.{TensorValue}
 use Rattle.sh_turns.specs.Program.{all_there}

@@ -1,6 +1,6 @@
 -- A function in device form on the devices of a grid, as the machine of turns runs it, and the lists
 -- of turns for which a world stands.
-use Rattle.std.specs.Prelude.{◌≡◌, ℕ, ◌<◌, List, [], All, length, map, Option, Some, IsSome, slice_get, slice_index_or, true}
+use Rattle.std.specs.Prelude.{◌≡◌, ℕ, List, [], All, length, Option, Some, slice_get, slice_index_or}
 use Rattle.sh_base.specs.Shape.{cell_count}
 use Rattle.sh_collectives.specs.DeviceForms.{IsInOrder}
 use Rattle.sh_grid.specs.Grid.{GridValue}
@@ -8,11 +8,10 @@ use Rattle.sh_ir.specs.declared.functions.Func.{Func}
 use Rattle.sh_ir.specs.declared.operations.Op.{Op}
 use Rattle.sh_ir.specs.declared.operations.OpKind.TheVariants.{UpdateHalo}
 use Rattle.sh_ir.specs.declared.shard_ops.UpdateHalo as declared_halo
-use Rattle.sh_ir.specs.Classes.{class_of}
-use Rattle.sh_pieces.specs.Instructions.{last_place, names_before}
-use Rattle.sh_sem.specs.Steps.{axes_of, device_function, device_program, is_collective_class, steps_on}
+use Rattle.sh_pieces.specs.Instructions.{names_before}
+use Rattle.sh_sem.specs.Steps.{device_function, device_program, steps_on}
 use Rattle.sh_tensor.specs.Tensor.{TensorValue}
-use Rattle.sh_turns.specs.Program.{Program, all_there}
+use Rattle.sh_turns.specs.Program.{Program}
 use Rattle.sh_turns.specs.World.{World, run, start}
 
 -- a function in device form on a grid, with the arguments of each device

@@ -1,12 +1,10 @@
 -- What a turn asks of its operands, and what it does to a device.
-use Rattle.std.specs.Prelude.{◌≡◌, ℕ, ◌+◌, ◌-◌, ◌^◌, ◌<◌, List, All, length, map, Option, Some, option_and_then, slice_get, true, false, vec_len, vec_capacity}
+use Rattle.std.specs.Prelude.{◌≡◌, ℕ, ◌+◌, ◌-◌, ◌^◌, ◌<◌, List, length, map, Option, Some, slice_get, true, false, vec_len, vec_capacity}
 use Rattle.sh_collectives.specs.Operands.{AreGroupOperands, IsSmall, shape_collected}
 use Rattle.sh_grid.specs.Grid.{group_of, place_in}
 use Rattle.sh_ir.specs.declared.operations.Op.{Op}
 use Rattle.sh_ir.specs.Classes.{class_of}
 use Rattle.sh_pieces.specs.Instructions.{value_under}
-use Rattle.sh_sem.specs.Collected.{shapes_collected}
-use Rattle.sh_sem.specs.Scalars.{width_of}
 use Rattle.sh_sem.specs.Steps.{axes_of, is_collective_class}
 use Rattle.sh_tensor.specs.Tensor.{TensorValue}
 use Rattle.sh_turns.specs.declared.Turn.{Turn}
