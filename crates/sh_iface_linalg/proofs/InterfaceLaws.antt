@@ -26,16 +26,16 @@ use Rattle.sh_iface.specs.Table as table
 use Rattle.sh_iface.specs.Table.{dims_by_map, follows, is_parallel, kind_of_step, nest_of, structured_loop, values_by}
 use Rattle.sh_iface.specs.Whole.{IsInterfaceOf, leading_scalars, whole_of}
 use Rattle.sh_iface_linalg.specs.Loops.{length-range}
-use Rattle.sh_iface_linalg.specs.Nests.{structure_by, structure_is}
-use Rattle.sh_iface_linalg.specs.Reading.{inputs_by}
-use Rattle.sh_iface_linalg.specs.Structured.{Form, Structured, ins_outs_by, inputs_at, is_fill, kind_at, kind_of_form, loop_by, loops_at, output_at, scalar_ins, step_at, structured_meaning, structured_nest, tensor_ins, value_by, whole_op}
-use Rattle.sh_iface_linalg.specs.Structured.{fill, matmul, batch_matmul, matvec, vecmat, dot, transpose, broadcast}
+use Rattle.sh_iface_linalg.specs.Nests.{Agrees, structure_by, structure_is}
+use Rattle.sh_iface_linalg.specs.Reading.{IsNamed, inputs_by}
+use Rattle.sh_iface_linalg.specs.Structured.{Form, Structured, input_types, ins_outs_by, inputs_at, is_fill, kind_at, kind_of_form, known, loop_by, loops_at, operands_in, output_at, output_type, renumbered_form, scalar_widths, step_at, structured_meaning, structured_nest, tensor_ins, value_by, whole_op}
+use Rattle.sh_iface_linalg.specs.Structured.{fill, matmul, batch_matmul, matvec, vecmat, dot, transpose, broadcast, reduce, generic}
 use Rattle.sh_iface_linalg.proofs.Pairs.{AreShapes, extent_is, followed_are}
 use Rattle.sh_iface_linalg.proofs.ReadLaws.{F, Fits, G, G_own, G_shapes, IsInput, L, X, X_counted, X_is, e, h, head_is, maps, own_type_is, pairs_in, row, types_are, zipped_dims}
 
 -- ---- the operation's structure
 
-nest_kind : (form : Form) (ts : List ValueType) (t : ValueType) → nest_of (kind_at form ts t) t ≡ option_map (table.structured_nest t) (structure_of (kind_at form ts t))
+pub nest_kind : (form : Form) (ts : List ValueType) (t : ValueType) → nest_of (kind_at form ts t) t ≡ option_map (table.structured_nest t) (structure_of (kind_at form ts t))
 unfolding nest_of
 nest_kind fill ts t = refl
 nest_kind matmul ts t = refl
@@ -45,8 +45,10 @@ nest_kind vecmat ts t = refl
 nest_kind dot ts t = refl
 nest_kind (transpose p) ts t = refl
 nest_kind (broadcast d) ts t = refl
+nest_kind (reduce n d r) ts t = refl
+nest_kind (generic maps its r) ts t = refl
 
-kinds_same : (form : Form) → kind_of_step (step_at form) ≡ kind_of_form form
+pub kinds_same : (form : Form) → kind_of_step (step_at form) ≡ kind_of_form form
 kinds_same fill = refl
 kinds_same matmul = refl
 kinds_same batch_matmul = refl
@@ -55,8 +57,35 @@ kinds_same vecmat = refl
 kinds_same dot = refl
 kinds_same (transpose p) = refl
 kinds_same (broadcast d) = refl
+kinds_same (reduce n d r) = refl
+kinds_same (generic maps its r) = refl
 
-named_single : (dims : List ℕ) (l : ℕ) → list_any (λ loops. pointwise nat_eq loops (l ∷ [])) (single dims) ≡ names dims l
+-- a named one writes nothing that has to agree with its operands, and no names
+named_agrees : (form : Form) (f n : ℕ) → IsNamed form → Agrees form f n
+named_agrees fill f n h = tt
+named_agrees matmul f n h = tt
+named_agrees batch_matmul f n h = tt
+named_agrees matvec f n h = tt
+named_agrees vecmat f n h = tt
+named_agrees dot f n h = tt
+named_agrees (transpose p) f n h = tt
+named_agrees (broadcast d) f n h = tt
+named_agrees (reduce m d r) f n h = absurd h
+named_agrees (generic maps its r) f n h = absurd h
+
+named_still : (first base : ℕ) (form : Form) → IsNamed form → renumbered_form first base form ≡ form
+named_still first base fill h = refl
+named_still first base matmul h = refl
+named_still first base batch_matmul h = refl
+named_still first base matvec h = refl
+named_still first base vecmat h = refl
+named_still first base dot h = refl
+named_still first base (transpose p) h = refl
+named_still first base (broadcast d) h = refl
+named_still first base (reduce n d r) h = absurd h
+named_still first base (generic maps its r) h = absurd h
+
+pub named_single : (dims : List ℕ) (l : ℕ) → list_any (λ loops. pointwise nat_eq loops (l ∷ [])) (single dims) ≡ names dims l
 named_single [] l = refl
 named_single (k ∷ dims) l = ap₂ (λ a b. a || b) (one (k == l)) (named_single dims l)
   where
@@ -64,7 +93,7 @@ named_single (k ∷ dims) l = ap₂ (λ a b. a || b) (one (k == l)) (named_singl
     one true = refl
     one false = refl
 
-map_same : {X Y : Type 0} (f g : X → Y) → ((x : X) → f x ≡ g x) → (xs : List X) → map f xs ≡ map g xs
+pub map_same : {X Y : Type 0} (f g : X → Y) → ((x : X) → f x ≡ g x) → (xs : List X) → map f xs ≡ map g xs
 map_same f g h [] = refl
 map_same f g h (x ∷ xs) = ap₂ ◌∷◌ (h x) (map_same f g h xs)
 
@@ -80,7 +109,7 @@ dims_single : (G : ℕ → ℕ) (ls : List ℕ) → dims_by_map (single ls) (map
 dims_single G [] = refl
 dims_single G (l ∷ ls) = ap (λ ds. follows Same l (G l) ∷ ds) (dims_single G ls)
 
-value_same : (xs ls : List ℕ) (t : ValueType) (w : Width) → shape_of t ≡ map (λ l. get_or xs l 0) ls → width_of t ≡ w → table.value_by (dims_by_map (single ls)) t ≡ value_by xs (record { dims = ls; width = w })
+pub value_same : (xs ls : List ℕ) (t : ValueType) (w : Width) → shape_of t ≡ map (λ l. get_or xs l 0) ls → width_of t ≡ w → table.value_by (dims_by_map (single ls)) t ≡ value_by xs (record { dims = ls; width = w })
 value_same xs ls t w shape width =
     ap₂ (λ ns v. record { dims = dims_by_map (single ls) ns; width = v }) shape width
     ∙ ap (λ ds. record { dims = ds; width = w }) (dims_single (λ l. get_or xs l 0) ls)
@@ -97,7 +126,7 @@ scalar_is form t filling is = subst (λ u. is_tensor u ≡ false) (sym (is.is �
     input_by : Bool → ValueType
     input_by b = if b then Scalar (width_of t) else tensor_of (known_dims (shape_of t)) (width_of t)
 
-values_same : (form : Form) (xs : List ℕ) (out : List ℕ) (t : ValueType) (w : Width) → shape_of t ≡ map (λ l. get_or xs l 0) out → width_of t ≡ w → is_tensor t ≡ true → (maps : List (List ℕ)) (ts : List ValueType)
+pub values_same : (form : Form) (xs : List ℕ) (out : List ℕ) (t : ValueType) (w : Width) → shape_of t ≡ map (λ l. get_or xs l 0) out → width_of t ≡ w → is_tensor t ≡ true → (maps : List (List ℕ)) (ts : List ValueType)
     → AllByRecursion (IsInput form) ts → AreShapes (λ l. get_or xs l 0) maps (map shape_of ts)
     → values_by dims_by_map (map single maps ++ single out ∷ []) (ts ++ t ∷ []) ≡ map (value_by xs) ((if is_fill form then [] else inputs_by maps (map width_of ts)) ++ record { dims = out; width = w } ∷ [])
 values_same form xs out t w shape width tensor maps ts is are =
@@ -129,27 +158,29 @@ values_same form xs out t w shape width tensor maps ts is are =
 
 -- ---- what it gives doesn't depend on names
 
-given_by : (form : Form) (ts : List ValueType) (t : ValueType) (xs ys : List ℕ) (seat : Seat) → drop (length (inputs_at form (rank_of (first_type ts)) (rank_of t)) + 1) xs ≡ drop (length (inputs_at form (rank_of (first_type ts)) (rank_of t)) + 1) ys
+given_by : (form : Form) (ts : List ValueType) (t : ValueType) (xs ys : List ℕ) (seat : Seat) → IsNamed form → drop (length (inputs_at form (rank_of (first_type ts)) (rank_of t)) + 1) xs ≡ drop (length (inputs_at form (rank_of (first_type ts)) (rank_of t)) + 1) ys
     → giving (kind_at form ts t) xs t seat ≡ giving (kind_at form ts t) ys t seat
 unfolding giving gives_nest structure_of
-given_by fill ts t xs ys seat same = ap (λ names. Some (record { shape = nest_shape (structure_by fill ts t 0 (rank_of t)); cell = λ us shape i. nest_cell (structure_by fill ts t 0 (rank_of t)) names us i })) same
-given_by matmul ts t xs ys seat same = ap (λ names. Some (record { shape = nest_shape (structure_by matmul ts t 0 0); cell = λ us shape i. nest_cell (structure_by matmul ts t 0 0) names us i })) same
-given_by batch_matmul ts t xs ys seat same = ap (λ names. Some (record { shape = nest_shape (structure_by batch_matmul ts t 0 0); cell = λ us shape i. nest_cell (structure_by batch_matmul ts t 0 0) names us i })) same
-given_by matvec ts t xs ys seat same = ap (λ names. Some (record { shape = nest_shape (structure_by matvec ts t 0 0); cell = λ us shape i. nest_cell (structure_by matvec ts t 0 0) names us i })) same
-given_by vecmat ts t xs ys seat same = ap (λ names. Some (record { shape = nest_shape (structure_by vecmat ts t 0 0); cell = λ us shape i. nest_cell (structure_by vecmat ts t 0 0) names us i })) same
-given_by dot ts t xs ys seat same = ap (λ names. Some (record { shape = nest_shape (structure_by dot ts t 0 0); cell = λ us shape i. nest_cell (structure_by dot ts t 0 0) names us i })) same
-given_by (transpose p) ts t xs ys seat same = ap (λ names. Some (record { shape = nest_shape (structure_by (transpose p) ts t (rank_of (first_type ts)) (rank_of t)); cell = λ us shape i. nest_cell (structure_by (transpose p) ts t (rank_of (first_type ts)) (rank_of t)) names us i })) same
-given_by (broadcast d) ts t xs ys seat same = ap (λ names. Some (record { shape = nest_shape (structure_by (broadcast d) ts t 0 (rank_of t)); cell = λ us shape i. nest_cell (structure_by (broadcast d) ts t 0 (rank_of t)) names us i })) same
+given_by fill ts t xs ys seat named same = ap (λ names. Some (record { shape = nest_shape (structure_by fill ts t 0 (rank_of t)); cell = λ us shape i. nest_cell (structure_by fill ts t 0 (rank_of t)) names us i })) same
+given_by matmul ts t xs ys seat named same = ap (λ names. Some (record { shape = nest_shape (structure_by matmul ts t 0 0); cell = λ us shape i. nest_cell (structure_by matmul ts t 0 0) names us i })) same
+given_by batch_matmul ts t xs ys seat named same = ap (λ names. Some (record { shape = nest_shape (structure_by batch_matmul ts t 0 0); cell = λ us shape i. nest_cell (structure_by batch_matmul ts t 0 0) names us i })) same
+given_by matvec ts t xs ys seat named same = ap (λ names. Some (record { shape = nest_shape (structure_by matvec ts t 0 0); cell = λ us shape i. nest_cell (structure_by matvec ts t 0 0) names us i })) same
+given_by vecmat ts t xs ys seat named same = ap (λ names. Some (record { shape = nest_shape (structure_by vecmat ts t 0 0); cell = λ us shape i. nest_cell (structure_by vecmat ts t 0 0) names us i })) same
+given_by dot ts t xs ys seat named same = ap (λ names. Some (record { shape = nest_shape (structure_by dot ts t 0 0); cell = λ us shape i. nest_cell (structure_by dot ts t 0 0) names us i })) same
+given_by (transpose p) ts t xs ys seat named same = ap (λ names. Some (record { shape = nest_shape (structure_by (transpose p) ts t (rank_of (first_type ts)) (rank_of t)); cell = λ us shape i. nest_cell (structure_by (transpose p) ts t (rank_of (first_type ts)) (rank_of t)) names us i })) same
+given_by (broadcast d) ts t xs ys seat named same = ap (λ names. Some (record { shape = nest_shape (structure_by (broadcast d) ts t 0 (rank_of t)); cell = λ us shape i. nest_cell (structure_by (broadcast d) ts t 0 (rank_of t)) names us i })) same
+given_by (reduce n d b) ts t xs ys seat named same = absurd named
+given_by (generic maps its b) ts t xs ys seat named same = absurd named
 
-pub given_alike : (form : Form) (ts : List ValueType) (t : ValueType) (xs ys : List ℕ) (x y : Option ℕ) (p q : Place) → length xs ≡ length (inputs_at form (rank_of (first_type ts)) (rank_of t)) + 1 → length ys ≡ length (inputs_at form (rank_of (first_type ts)) (rank_of t)) + 1 → (us : List TensorValue)
+pub given_alike : (form : Form) (ts : List ValueType) (t : ValueType) (xs ys : List ℕ) (x y : Option ℕ) (p q : Place) → IsNamed form → length xs ≡ length (inputs_at form (rank_of (first_type ts)) (rank_of t)) + 1 → length ys ≡ length (inputs_at form (rank_of (first_type ts)) (rank_of t)) + 1 → (us : List TensorValue)
     → given (record { kind = kind_at form ts t; operands = xs; defines = x; result = t; place = p }) alone us ≡ given (record { kind = kind_at form ts t; operands = ys; defines = y; result = t; place = q }) alone us
 unfolding given shape_given cell_given
-given_alike form ts t xs ys x y p q m n us =
+given_alike form ts t xs ys x y p q named m n us =
     let k = length (inputs_at form (rank_of (first_type ts)) (rank_of t)) + 1 in
     ap (λ (gv : Option Giving).
     option_and_then (λ shape. built_of shape (width_of t) (λ i. option_and_then (λ v. v.cell us shape i) gv))
     (if have_all_extents (typing_of (kind_at form ts t) t) (map (λ u. u.shape) us) then option_and_then (of_dims (dims_of t)) (option_and_then (λ v. v.shape (map (λ u. u.shape) us)) gv) else None))
-    (given_by form ts t xs ys alone (drop_all k xs (omega (arith, m)) ∙ sym (drop_all k ys (omega (arith, n)))))
+    (given_by form ts t xs ys alone named (drop_all k xs (omega (arith, m)) ∙ sym (drop_all k ys (omega (arith, n)))))
 
 -- ---- the interface
 
@@ -160,7 +191,7 @@ ranks_alike Nothing = refl
 ranks_alike Sharding = refl
 ranks_alike Index = refl
 
-drop_and_take : {X : Type 0} (n : ℕ) (xs : List X) → length (drop n xs ++ take n xs) ≡ length xs
+pub drop_and_take : {X : Type 0} (n : ℕ) (xs : List X) → length (drop n xs ++ take n xs) ≡ length xs
 drop_and_take zero xs = ap length (append-nil xs)
 drop_and_take (suc n) [] = refl
 drop_and_take (suc n) (x ∷ xs) =
@@ -220,7 +251,7 @@ module _ (form : Form) (ts : List ValueType) (t : ValueType) (place : Place) (fi
       λ j. record { loops = loops j; operands = operands j; result = result j }
 
   nest_same : nest_of (kind_at form ts t) t ≡ Some (structured_nest E)
-  nest_same = nest_kind form ts t ∙ ap (option_map (table.structured_nest t)) (structure_is form ts t ∙ ap (λ x. Some x) structure_same) ∙ ap (λ x. Some x) table_same
+  nest_same = nest_kind form ts t ∙ ap (option_map (table.structured_nest t)) (structure_is form ts t (named_agrees form (rank_of (first_type ts)) (length ts) fits.named) ∙ ap (λ x. Some x) structure_same) ∙ ap (λ x. Some x) table_same
 
   ins_counted : length E.ins ≡ length ms
   ins_counted = sym (length-map E.ins (λ (x : Operand). x.dims)) ∙ ap length (zipped_dims ms (map width_of ts) (length-map ts width_of ∙ fits.count))
@@ -231,25 +262,27 @@ module _ (form : Form) (ts : List ValueType) (t : ValueType) (place : Place) (fi
   whole_same operands defines where_at counted us =
       let inputs = types_are form ts t place fits ms ts fits.inputs (G_shapes form ts t place fits) in
       let own = own_type_is form ts t place fits in
-      let names : List ℕ = range_with_len 0 (length E.ins + 1) in
+      let names : List ℕ = range_with_len 0 (operands_in E) in
       let all = ins_counted in
       let shape : length (inputs_at form (rank_of (first_type ts)) (rank_of t)) ≡ length ms = ap length inputs_same in
-      let long : length names ≡ length E.ins + 1 = length-range 0 (length E.ins + 1) in
-      ap₂ (λ us' u. whole_of (record { kind = kind_at form us' u; operands = names; defines = Some (length E.ins + 1); result = u; place = place }) us) (sym inputs) (sym own)
-      ∙ given_alike form ts t names operands (Some (length E.ins + 1)) defines place where_at (omega (arith, all, shape, long)) (omega (arith, counted, shape))
+      let long : length names ≡ operands_in E = length-range 0 (operands_in E) in
+      ap (λ k. whole_of (record { kind = kind_at k (input_types E (known xs)) (output_type E (known xs)); operands = names; defines = Some (operands_in E); result = output_type E (known xs); place = place }) us)
+      (named_still (length E.ins + 1) (operands_in E + 1) form fits.named)
+      ∙ ap₂ (λ us' u. whole_of (record { kind = kind_at form us' u; operands = names; defines = Some (operands_in E); result = u; place = place }) us) (sym inputs) (sym own)
+      ∙ given_alike form ts t names operands (Some (operands_in E)) defines place where_at fits.named (omega (arith, all, shape, long)) (omega (arith, counted, shape))
       (drop (length us - leading_scalars (kind_at form ts t)) us ++ take (length us - leading_scalars (kind_at form ts t)) us)
 
-  scalars_or_tensors : (b : Bool) → is_fill form ≡ b → length (structured_nest E).operands + length (map (λ (x : Operand). x.width) (scalar_ins E)) ≡ length ms + 1
+  scalars_or_tensors : (b : Bool) → is_fill form ≡ b → length (structured_nest E).operands + length (scalar_widths E) ≡ length ms + 1
   unfolding structured_nest
   scalars_or_tensors b filling =
       let all = ins_counted in
       let operands = length-map (tensor_ins E ++ E.out ∷ []) (value_by xs) ∙ length-append (tensor_ins E) (E.out ∷ []) in
-      let scalars = length-map (scalar_ins E) (λ (x : Operand). x.width) in
-      let both : length (tensor_ins E) + length (scalar_ins E) ≡ length E.ins = ap (λ (c : Bool). length (if c then [] else E.ins) + length (if c then E.ins else [])) filling ∙ go b in
-      omega (arith, all, operands, scalars, both)
+      let scalars = length-map E.ins (λ (x : Operand). x.width) in
+      let both : length (tensor_ins E) + length (scalar_widths E) ≡ length E.ins = ap (λ (c : Bool). length (if c then [] else E.ins) + length (if c then map (λ (x : Operand). x.width) E.ins else [])) filling ∙ go b in
+      omega (arith, all, operands, both)
     where
-      go : (c : Bool) → length (if c then [] else E.ins) + length (if c then E.ins else []) ≡ length E.ins
-      go true = omega arith
+      go : (c : Bool) → length (if c then [] else E.ins) + length (if c then map (λ (x : Operand). x.width) E.ins else []) ≡ length E.ins
+      go true = let scalars = length-map E.ins (λ (x : Operand). x.width) in omega (arith, scalars)
       go false = omega arith
 
   -- The interface is that of an operation of this kind.

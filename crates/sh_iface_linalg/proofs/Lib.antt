@@ -1,10 +1,16 @@
+pub mod BodyCode
+pub mod Examples
 pub mod InterfaceLaws
 pub mod ListedLaws
 pub mod NestLaws
+pub mod OfVerified
 pub mod Pairs
 pub mod PermutedLaws
 pub mod ReadLaws
 pub mod ReadOff
+pub mod RegionalLaws
+pub mod RegionalRead
+pub mod RegionRead
 pub mod RowLaws
 pub mod SourceTypes
 pub mod VerifiedLaws

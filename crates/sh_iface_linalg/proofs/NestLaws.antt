@@ -1,5 +1,5 @@
 -- What the loop nest of a structured operation says of each loop and each dimension.
-use Rattle.std.proofs.Common.{◌≡◌, ℕ, zero, suc, ◌+◌, ◌<◌, ◌≤◌, Bool, true, false, ◌==◌, List, [], ◌∷◌, ◌++◌, map, take, drop, length, Option, Some, None, refl, ap, ap₂, sym, ◌∙◌, arith, subst, inl, inr}
+use Rattle.std.proofs.Common.{◌≡◌, ℕ, zero, suc, ◌+◌, ◌-◌, ◌<◌, ◌≤◌, Bool, true, false, ◌==◌, List, [], ◌∷◌, ◌++◌, map, take, drop, length, Option, Some, None, refl, ap, ap₂, sym, ◌∙◌, arith, subst, inl, inr}
 use Rattle.std.proofs.lemmas.Bool.{cases_Bool}
 use Rattle.std.proofs.lemmas.Bool.Decides.{nat_tests}
 use Rattle.std.proofs.lemmas.List.{get_or_past, length-append, length-map}
@@ -23,7 +23,7 @@ use Rattle.sh_iface.specs.Table.{follows}
 use Rattle.sh_iface_linalg.specs.Divisions.{dims_local, implied_is}
 use Rattle.sh_iface_linalg.specs.Ifaces.{value_in}
 use Rattle.sh_iface_linalg.specs.Loops.{got_all, length-range, plain_value as plain_of_value, tensors_of}
-use Rattle.sh_iface_linalg.specs.Structured.{IsFollowing, IsStructured, Structured, combining_kind, fill_op, kind_of_form, local_loop, loop_by, neutral_op, op_by, part_by, part_names, reducing_ops, splits_reduction, structured_nest, structured_part, tensor_ins, value_by}
+use Rattle.sh_iface_linalg.specs.Structured.{IsFollowing, IsStructured, Structured, combining_kind, fill_op, kind_of_form, local_loop, loop_by, neutral_op, op_by, operands_in, part_by, part_names, reducing_names, reducing_ops, splits_reduction, structured_nest, structured_part, tensor_ins, value_by}
 
 -- ---- lists
 
@@ -229,22 +229,34 @@ module _ (e : Structured) (o : OptionValue) where
 
 -- ---- the local part
 
-pub reducing_made : (e : Structured) (dim : ℕ → Dim) (k : Kind) (count : ℕ) (ns : List ℕ) (old a b d : List Op) → count ≡ length e.ins → ns ≡ range_with_len 0 count ++ (count + 2) ∷ []
-    → a ≡ old ++ neutral_op e dim k (count + 1) ∷ [] → b ≡ a ++ fill_op e dim count (count + 1) ∷ [] → d ≡ b ++ op_by e dim ns (count + 3) ∷ [] → d ≡ old ++ reducing_ops e dim k
-reducing_made e dim k count ns old a b d same names_are first second third =
+pub reducing_named : (e : Structured) (inputs count from outs : ℕ) (ns ms ks : List ℕ) → inputs ≡ length e.ins → from ≡ inputs + 1 → count ≡ operands_in e → ns ≡ range_with_len 0 inputs → ms ≡ ns ++ outs ∷ [] → ks ≡ ms ++ range_with_len from (count - from)
+    → ks ≡ reducing_names e outs
+reducing_named e inputs count from outs ns ms ks same next all first second third =
+    let left : count - from ≡ length e.captured = omega (arith, same, next, all) in
+    third ∙ ap₂ (λ xs n. xs ++ range_with_len from n) (second ∙ ap (λ xs. xs ++ outs ∷ []) first) left
+    ∙ joined (range_with_len 0 inputs) (range_with_len from (length e.captured))
+    ∙ ap₂ (λ n m. range_with_len 0 n ++ outs ∷ range_with_len m (length e.captured)) same (next ∙ ap (λ n. n + 1) same)
+  where
+    joined : (xs ys : List ℕ) → (xs ++ outs ∷ []) ++ ys ≡ xs ++ outs ∷ ys
+    joined [] ys = refl
+    joined (x ∷ xs) ys = ap (λ zs. x ∷ zs) (joined xs ys)
+
+pub reducing_made : (e : Structured) (dim : ℕ → Dim) (k : Kind) (scalar outs name : ℕ) (ns : List ℕ) (old a b d : List Op) → scalar ≡ operands_in e → outs ≡ scalar + 1 → name ≡ outs + 1 → ns ≡ reducing_names e outs
+    → a ≡ old ++ neutral_op e dim k scalar ∷ [] → b ≡ a ++ fill_op e dim (length e.ins) scalar ∷ [] → d ≡ b ++ op_by e dim ns name ∷ [] → d ≡ old ++ reducing_ops e dim k
+reducing_made e dim k scalar outs name ns old a b d same next last names_are first second third =
     third
-    ∙ ap₂ (λ xs ms. xs ++ op_by e dim ms (count + 3) ∷ []) (second ∙ ap (λ xs. xs ++ fill_op e dim count (count + 1) ∷ []) first) names_are
-    ∙ joined3 old (neutral_op e dim k (count + 1)) (fill_op e dim count (count + 1)) (op_by e dim (range_with_len 0 count ++ (count + 2) ∷ []) (count + 3))
-    ∙ (let two : count + 2 ≡ suc (count + 1) = omega arith in let three : count + 3 ≡ suc (suc (count + 1)) = omega arith in
-    ap₂ (λ m n. old ++ neutral_op e dim k (count + 1) ∷ fill_op e dim count (count + 1) ∷ op_by e dim (range_with_len 0 count ++ m ∷ []) n ∷ []) two three)
-    ∙ ap (λ n. old ++ neutral_op e dim k (n + 1) ∷ fill_op e dim n (n + 1) ∷ op_by e dim (range_with_len 0 n ++ suc (n + 1) ∷ []) (suc (suc (n + 1))) ∷ []) same
+    ∙ ap₂ (λ xs ms. xs ++ op_by e dim ms name ∷ []) (second ∙ ap (λ xs. xs ++ fill_op e dim (length e.ins) scalar ∷ []) first) names_are
+    ∙ joined3 old (neutral_op e dim k scalar) (fill_op e dim (length e.ins) scalar) (op_by e dim (reducing_names e outs) name)
+    ∙ (let two : outs ≡ suc scalar = omega (arith, next) in let three : name ≡ suc (suc scalar) = omega (arith, next, last) in
+    ap₂ (λ m n. old ++ neutral_op e dim k scalar ∷ fill_op e dim (length e.ins) scalar ∷ op_by e dim (reducing_names e m) n ∷ []) two three)
+    ∙ ap (λ n. old ++ neutral_op e dim k n ∷ fill_op e dim (length e.ins) n ∷ op_by e dim (reducing_names e (suc n)) (suc (suc n)) ∷ []) same
   where
     joined3 : (xs : List Op) (x y z : Op) → ((xs ++ x ∷ []) ++ y ∷ []) ++ z ∷ [] ≡ xs ++ x ∷ y ∷ z ∷ []
     joined3 [] x y z = refl
     joined3 (w ∷ xs) x y z = ap (λ ws. w ∷ ws) (joined3 xs x y z)
 
-pub alone_made : (e : Structured) (dim : ℕ → Dim) (n : ℕ) (ns : List ℕ) (old a : List Op) → n ≡ length e.ins → ns ≡ part_names e → a ≡ old ++ op_by e dim ns (n + 1) ∷ [] → a ≡ old ++ op_by e dim (part_names e) (length e.ins + 1) ∷ []
-alone_made e dim n ns old a same names_are made = made ∙ ap₂ (λ xs m. old ++ op_by e dim xs (m + 1) ∷ []) names_are same
+pub alone_made : (e : Structured) (dim : ℕ → Dim) (name : ℕ) (ns : List ℕ) (old a : List Op) → name ≡ operands_in e → ns ≡ part_names e → a ≡ old ++ op_by e dim ns name ∷ [] → a ≡ old ++ op_by e dim (part_names e) (operands_in e) ∷ []
+alone_made e dim name ns old a same names_are made = made ∙ ap₂ (λ xs m. old ++ op_by e dim xs m ∷ []) names_are same
 
 pub part_made : (e : Structured) (g : GridValue) (o : OptionValue) (k : Option Kind) (old ops : List Op) → old ≡ [] → k ≡ combining_kind e o → ops ≡ old ++ (part_by e (local_loop e.extents g o) k).ops
     → record { ops = ops; combine = k } ≡ structured_part e g o

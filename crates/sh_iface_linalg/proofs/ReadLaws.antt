@@ -15,8 +15,9 @@ use Rattle.sh_sem.specs.Scalars.{width_of}
 use Rattle.sh_sharding.specs.Sharding.{counted_cells}
 use Rattle.sh_iface.specs.Elements.{known_dims, tensor_of}
 use Rattle.sh_iface_linalg.specs.Loops.{length-range, map_twice}
-use Rattle.sh_iface_linalg.specs.Reading.{inputs_by, reduced_extents, structured_by}
-use Rattle.sh_iface_linalg.specs.Structured.{FitsNumbers, FitsWidths, Form, IsFollowing, IsStructured, Structured, first_rank, input_type, inputs_at, is_named, known, loops_at, output_at}
+use Rattle.sh_iface_linalg.specs.Reading.{IsNamed, inputs_by, reduced_extents, structured_by}
+use Rattle.sh_iface_linalg.specs.Structured.{FitsNumbers, FitsRegion, FitsWidths, Form, IsFollowing, IsStructured, Structured, first_rank, input_type, inputs_at, is_named, known, loops_at, output_at}
+use Rattle.sh_iface_linalg.specs.Structured.{fill, matmul, batch_matmul, matvec, vecmat, dot, transpose, broadcast, reduce, generic}
 use Rattle.sh_iface_linalg.proofs.NestLaws.{got_mapped, got_range}
 use Rattle.sh_iface_linalg.proofs.Pairs.{AreShapes, Pair, all_pairs, first_at}
 use Rattle.sh_iface_linalg.proofs.RowLaws.{AllBelow, IsRow, extents_are, named_in, range_axes, row_is}
@@ -42,12 +43,12 @@ zipped_widths [] (w ∷ ws) e = absurd (omega (arith, e))
 zipped_widths (ls ∷ maps) [] e = absurd (omega (arith, e))
 zipped_widths (ls ∷ maps) (w ∷ ws) e = ap (λ vs. w ∷ vs) (zipped_widths maps ws (omega (arith, e)))
 
-zipped_named : (maps : List (List ℕ)) (ws : List Width) (out : Operand) (l : ℕ) → length ws ≡ length maps → is_named (inputs_by maps ws) out l ≡ named_in maps out.dims l
+pub zipped_named : (maps : List (List ℕ)) (ws : List Width) (out : Operand) (l : ℕ) → length ws ≡ length maps → is_named (inputs_by maps ws) out l ≡ named_in maps out.dims l
 zipped_named [] ws out l e = refl
 zipped_named (ls ∷ maps) [] out l e = absurd (omega (arith, e))
 zipped_named (ls ∷ maps) (w ∷ ws) out l e = ap (λ b. names ls l || b) (zipped_named maps ws out l (omega (arith, e)))
 
-zipped_first : (maps : List (List ℕ)) (ws : List Width) → length ws ≡ length maps → first_rank (inputs_by maps ws) ≡ length (get_or maps 0 [])
+pub zipped_first : (maps : List (List ℕ)) (ws : List Width) → length ws ≡ length maps → first_rank (inputs_by maps ws) ≡ length (get_or maps 0 [])
 zipped_first [] ws e = refl
 zipped_first (ls ∷ maps) [] e = absurd (omega (arith, e))
 zipped_first (ls ∷ maps) (w ∷ ws) e = refl
@@ -81,17 +82,29 @@ first_shape F [] (t ∷ ts) h = absurd h
 first_shape F (ls ∷ maps) [] h = absurd h
 first_shape F (ls ∷ maps) (t ∷ ts) h = h.0
 
-mapped_below : (F G : ℕ → ℕ) (n : ℕ) → ((l : ℕ) → l < n → G l ≡ F l) → (ls : List ℕ) → AllByRecursion (λ l. l < n) ls → map F ls ≡ map G ls
+pub mapped_below : (F G : ℕ → ℕ) (n : ℕ) → ((l : ℕ) → l < n → G l ≡ F l) → (ls : List ℕ) → AllByRecursion (λ l. l < n) ls → map F ls ≡ map G ls
 mapped_below F G n h [] below = refl
 mapped_below F G n h (l ∷ ls) below = ap₂ ◌∷◌ (sym (h l below.0)) (mapped_below F G n h ls below.1)
 
-shapes_below : (F G : ℕ → ℕ) (n : ℕ) → ((l : ℕ) → l < n → G l ≡ F l) → (maps shapes : List (List ℕ)) → AllBelow n maps → AreShapes F maps shapes → AreShapes G maps shapes
+pub shapes_below : (F G : ℕ → ℕ) (n : ℕ) → ((l : ℕ) → l < n → G l ≡ F l) → (maps shapes : List (List ℕ)) → AllBelow n maps → AreShapes F maps shapes → AreShapes G maps shapes
 shapes_below F G n h [] [] below are = tt
 shapes_below F G n h [] (ns ∷ shapes) below are = absurd are
 shapes_below F G n h (ls ∷ maps) [] below are = absurd are
 shapes_below F G n h (ls ∷ maps) (ns ∷ shapes) below are = (are.0 ∙ mapped_below F G n h ls below.0, shapes_below F G n h maps shapes below.1 are.1)
 
 -- ---- the operation
+
+named_region : (form : Form) (ins : List Width) (w : Width) → IsNamed form → FitsRegion form [] ins w
+named_region fill ins w h = refl
+named_region matmul ins w h = refl
+named_region batch_matmul ins w h = refl
+named_region matvec ins w h = refl
+named_region vecmat ins w h = refl
+named_region dot ins w h = refl
+named_region (transpose p) ins w h = refl
+named_region (broadcast d) ins w h = refl
+named_region (reduce n d r) ins w h = absurd h
+named_region (generic maps its r) ins w h = absurd h
 
 abbrev pub pairs_in : Form → List ValueType → ValueType → List Pair
 pairs_in form ts t =
@@ -100,6 +113,7 @@ pairs_in form ts t =
 
 -- what the rules say of the types of operands and result
 pub record Fits (form : Form) (ts : List ValueType) (t : ValueType) : Type 0 where
+  pub named : IsNamed form
   pub count : length ts ≡ length (inputs_at form (length (shape_of t)) (length (shape_of t)))
   pub inputs : AllByRecursion (IsInput form) ts
   pub out : t ≡ tensor_of (known_dims (shape_of t)) (width_of t)
@@ -142,13 +156,13 @@ module _ (form : Form) (ts : List ValueType) (t : ValueType) (place : Place) (fi
   own = record { dims = range_with_len 0 r; width = width_of t }
 
   abbrev pub e : Structured
-  e = record { form = form; extents = X; ins = inputs_by maps ws; out = own; place = place }
+  e = record { form = form; extents = X; ins = inputs_by maps ws; out = own; captured = []; place = place }
 
   pub row : IsRow form r
-  row = row_is form (length h) r fits.out_rank fits.short fits.numbers
+  row = row_is form (length h) r fits.named fits.out_rank fits.short fits.numbers
 
   pub e_is : structured_by form s (get_or h (length h - 1) 0) (width_of (get_or ts 0 Nothing)) (width_of (get_or ts 1 Nothing)) (width_of t) place ≡ e
-  e_is = ap (λ xs. record { form = form; extents = X; ins = xs; out = own; place = place }) (read_widths maps ts fits.count row.two)
+  e_is = ap (λ xs. record { form = form; extents = X; ins = xs; out = own; captured = []; place = place }) (read_widths maps ts fits.count row.two)
 
   ws_counted : length ws ≡ length maps
   ws_counted = length-map ts width_of ∙ fits.count
@@ -160,7 +174,7 @@ module _ (form : Form) (ts : List ValueType) (t : ValueType) (place : Place) (fi
   head_is = first_shape F maps ts F_shapes
 
   pub X_is : X ≡ map F (range_with_len 0 L)
-  X_is = extents_are form F r fits.out_rank s h (own_shape F maps (range_with_len 0 r) ts s fits.count fits.shapes) head_is
+  X_is = extents_are form F r fits.named fits.out_rank s h (own_shape F maps (range_with_len 0 r) ts s fits.count fits.shapes) head_is
 
   pub X_counted : length X ≡ L
   X_counted = ap length X_is ∙ length-map (range_with_len 0 L) F ∙ length-range 0 L
@@ -218,6 +232,7 @@ module _ (form : Form) (ts : List ValueType) (t : ValueType) (place : Place) (fi
         loops = ap (loops_at form) rank ∙ sym X_counted;
         inputs = ap₂ (inputs_at form) first rank ∙ row.first ∙ sym (zipped_dims maps ws ws_counted);
         output = ap (output_at form) rank ∙ row.output;
+        region = named_region form (map (λ (x : Operand). x.width) (inputs_by maps ws)) (width_of t) fits.named;
         widths = subst (FitsWidths form (width_of t)) (sym (zipped_widths maps ws ws_counted)) fits.widths;
         numbers = subst (λ f. FitsNumbers form f (length (range_with_len 0 r))) (head ∙ sym first) (subst (FitsNumbers form (length h)) (sym rank) fits.numbers);
         few = omega (arith, counted, few);

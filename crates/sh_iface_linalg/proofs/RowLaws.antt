@@ -9,8 +9,8 @@ use Rattle.sh_grid.specs.Grid.{AreAxesOf, IsNoneOf}
 use Rattle.sh_ir.specs.Numbers.{as_naturals}
 use Rattle.sh_nest_laws.specs.LoopSplits.{names}
 use Rattle.sh_iface_linalg.specs.Structured.{FitsNumbers, Form, inputs_at, loops_at, output_at}
-use Rattle.sh_iface_linalg.specs.Structured.{fill, matmul, batch_matmul, matvec, vecmat, dot, transpose, broadcast}
-use Rattle.sh_iface_linalg.specs.Reading.{reduced_extents}
+use Rattle.sh_iface_linalg.specs.Structured.{fill, matmul, batch_matmul, matvec, vecmat, dot, transpose, broadcast, reduce, generic}
+use Rattle.sh_iface_linalg.specs.Reading.{IsNamed, reduced_extents}
 use Rattle.sh_iface_linalg.proofs.NestLaws.{names_range, places_counted}
 use Rattle.sh_iface_linalg.proofs.PermutedLaws.{permuted_below, unlisted_below}
 
@@ -120,14 +120,14 @@ dot_row = record {
     go zero lt = refl
     go (suc l) lt = absurd (omega (arith, lt))
 
-pub row_is : (form : Form) (f r : ℕ) → length (output_at form r) ≡ r → r ≤ max_rank → FitsNumbers form f r → IsRow form r
-row_is fill f r out short ok = record { few = short; ranks = omega arith; output = refl; below = (tt, tt); named = λ l lt. own_named ([] ∷ []) r l lt; first = refl; two = omega arith }
-row_is matmul f r out short ok = subst (IsRow matmul) out matmul_row
-row_is batch_matmul f r out short ok = subst (IsRow batch_matmul) out batch_row
-row_is matvec f r out short ok = subst (IsRow matvec) out matvec_row
-row_is vecmat f r out short ok = subst (IsRow vecmat) out vecmat_row
-row_is dot f r out short ok = subst (IsRow dot) out dot_row
-row_is (transpose p) f r out short ok = record {
+pub row_is : (form : Form) (f r : ℕ) → IsNamed form → length (output_at form r) ≡ r → r ≤ max_rank → FitsNumbers form f r → IsRow form r
+row_is fill f r named out short ok = record { few = short; ranks = omega arith; output = refl; below = (tt, tt); named = λ l lt. own_named ([] ∷ []) r l lt; first = refl; two = omega arith }
+row_is matmul f r named out short ok = subst (IsRow matmul) out matmul_row
+row_is batch_matmul f r named out short ok = subst (IsRow batch_matmul) out batch_row
+row_is matvec f r named out short ok = subst (IsRow matvec) out matvec_row
+row_is vecmat f r named out short ok = subst (IsRow vecmat) out vecmat_row
+row_is dot f r named out short ok = subst (IsRow dot) out dot_row
+row_is (transpose p) f r named out short ok = record {
   few = short;
   ranks = omega arith;
   output = refl;
@@ -136,7 +136,7 @@ row_is (transpose p) f r out short ok = record {
   first = ap (λ n. inputs_at (transpose p) n r) (places_counted r (as_naturals p));
   two = omega arith;
 }
-row_is (broadcast d) f r out short ok = record {
+row_is (broadcast d) f r named out short ok = record {
   few = short;
   ranks = omega arith;
   output = refl;
@@ -145,19 +145,23 @@ row_is (broadcast d) f r out short ok = record {
   first = refl;
   two = omega arith;
 }
+row_is (reduce n d b) f r named out short ok = absurd named
+row_is (generic maps its b) f r named out short ok = absurd named
 
 -- ---- the extents of the loops
 
-pub extents_are : (form : Form) (F : ℕ → ℕ) (r : ℕ) → length (output_at form r) ≡ r → (s h : List ℕ) → s ≡ map F (range_with_len 0 r) → h ≡ map F (get_or (inputs_at form r r) 0 [])
+pub extents_are : (form : Form) (F : ℕ → ℕ) (r : ℕ) → IsNamed form → length (output_at form r) ≡ r → (s h : List ℕ) → s ≡ map F (range_with_len 0 r) → h ≡ map F (get_or (inputs_at form r r) 0 [])
     → s ++ reduced_extents form (get_or h (length h - 1) 0) ≡ map F (range_with_len 0 (loops_at form r))
-extents_are fill F r out s h own first = append-nil s ∙ own
-extents_are matmul F r out s h own first = ap₂ (λ s h. s ++ get_or h (length h - 1) 0 ∷ []) (own ∙ ap (λ n. map F (range_with_len 0 n)) (sym out)) first
-extents_are batch_matmul F r out s h own first = ap₂ (λ s h. s ++ get_or h (length h - 1) 0 ∷ []) (own ∙ ap (λ n. map F (range_with_len 0 n)) (sym out)) first
-extents_are matvec F r out s h own first = ap₂ (λ s h. s ++ get_or h (length h - 1) 0 ∷ []) (own ∙ ap (λ n. map F (range_with_len 0 n)) (sym out)) first
-extents_are vecmat F r out s h own first = ap₂ (λ s h. s ++ get_or h (length h - 1) 0 ∷ []) (own ∙ ap (λ n. map F (range_with_len 0 n)) (sym out)) first
-extents_are dot F r out s h own first = ap₂ (λ s h. s ++ get_or h (length h - 1) 0 ∷ []) (own ∙ ap (λ n. map F (range_with_len 0 n)) (sym out)) first
-extents_are (transpose p) F r out s h own first = append-nil s ∙ own
-extents_are (broadcast d) F r out s h own first = append-nil s ∙ own
+extents_are fill F r named out s h own first = append-nil s ∙ own
+extents_are matmul F r named out s h own first = ap₂ (λ s h. s ++ get_or h (length h - 1) 0 ∷ []) (own ∙ ap (λ n. map F (range_with_len 0 n)) (sym out)) first
+extents_are batch_matmul F r named out s h own first = ap₂ (λ s h. s ++ get_or h (length h - 1) 0 ∷ []) (own ∙ ap (λ n. map F (range_with_len 0 n)) (sym out)) first
+extents_are matvec F r named out s h own first = ap₂ (λ s h. s ++ get_or h (length h - 1) 0 ∷ []) (own ∙ ap (λ n. map F (range_with_len 0 n)) (sym out)) first
+extents_are vecmat F r named out s h own first = ap₂ (λ s h. s ++ get_or h (length h - 1) 0 ∷ []) (own ∙ ap (λ n. map F (range_with_len 0 n)) (sym out)) first
+extents_are dot F r named out s h own first = ap₂ (λ s h. s ++ get_or h (length h - 1) 0 ∷ []) (own ∙ ap (λ n. map F (range_with_len 0 n)) (sym out)) first
+extents_are (transpose p) F r named out s h own first = append-nil s ∙ own
+extents_are (broadcast d) F r named out s h own first = append-nil s ∙ own
+extents_are (reduce n d b) F r named out s h own first = absurd named
+extents_are (generic maps its b) F r named out s h own first = absurd named
 
 -- ---- the output names no loop twice
 

@@ -30,10 +30,10 @@ use Rattle.sh_ir.proofs.KeptLaws.{kept_here}
 use Rattle.sh_sharding.specs.Sharding.{counted_cells}
 use Rattle.sh_iface.specs.Elements.{known_dims, tensor_of}
 use Rattle.sh_iface.specs.Verified.{IsOfVerified}
-use Rattle.sh_iface_linalg.specs.Reading.{kind_with}
+use Rattle.sh_iface_linalg.specs.Reading.{IsNamed, kind_with}
 use Rattle.sh_iface_linalg.specs.Rules.{both}
 use Rattle.sh_iface_linalg.specs.Structured.{Form, ins_outs_by, inputs_at, is_fill, kind_at}
-use Rattle.sh_iface_linalg.specs.Structured.{fill, matmul, batch_matmul, matvec, vecmat, dot, transpose, broadcast}
+use Rattle.sh_iface_linalg.specs.Structured.{fill, matmul, batch_matmul, matvec, vecmat, dot, transpose, broadcast, reduce, generic}
 use Rattle.sh_iface_linalg.proofs.PermutedLaws.{same_number}
 
 neither : (a b : Bool) → (a || b) ≡ false → (a ≡ false) × (b ≡ false)
@@ -165,16 +165,18 @@ named_parts n x h =
     let typed = both _ _ first.1 in
     parts_of x x.outs_types refl n (same_number _ _ counts.0) (same_number _ _ counts.1) (same_number _ _ typed.0) (same_number _ _ typed.1)
 
-pub counts_are : (form : Form) (x : InsOuts) (operands : List ℕ) (f r : ℕ) → counts_fit (kind_with form x) operands ≡ names (length (inputs_at form f r)) x
+pub counts_are : (form : Form) (x : InsOuts) (operands : List ℕ) (f r : ℕ) → IsNamed form → counts_fit (kind_with form x) operands ≡ names (length (inputs_at form f r)) x
 unfolding counts_fit
-counts_are fill x operands f r = refl
-counts_are matmul x operands f r = refl
-counts_are batch_matmul x operands f r = refl
-counts_are matvec x operands f r = refl
-counts_are vecmat x operands f r = refl
-counts_are dot x operands f r = refl
-counts_are (transpose p) x operands f r = refl
-counts_are (broadcast d) x operands f r = refl
+counts_are fill x operands f r named = refl
+counts_are matmul x operands f r named = refl
+counts_are batch_matmul x operands f r named = refl
+counts_are matvec x operands f r named = refl
+counts_are vecmat x operands f r named = refl
+counts_are dot x operands f r named = refl
+counts_are (transpose p) x operands f r named = refl
+counts_are (broadcast d) x operands f r named = refl
+counts_are (reduce n d b) x operands f r named = absurd named
+counts_are (generic maps its b) x operands f r named = absurd named
 
 pub kind_is : (form : Form) (ts : List ValueType) (t : ValueType) → kind_with form (ins_outs_by ts t) ≡ kind_at form ts t
 kind_is fill ts t = refl
@@ -185,6 +187,8 @@ kind_is vecmat ts t = refl
 kind_is dot ts t = refl
 kind_is (transpose p) ts t = refl
 kind_is (broadcast d) ts t = refl
+kind_is (reduce n d r) ts t = refl
+kind_is (generic maps its r) ts t = refl
 
 -- ---- its types
 
@@ -210,6 +214,9 @@ types_split (transpose p) ts t result fits test h =
     let a = front_of test (ts ++ t ∷ []) [] h in let b = front_of test ts (t ∷ []) a.0 in (b.0, one_of test t b.1, subst (λ u. test u ≡ true) (sym fits) (one_of test t b.1))
 types_split (broadcast d) ts t result fits test h =
     let a = front_of test (ts ++ t ∷ []) [] h in let b = front_of test ts (t ∷ []) a.0 in (b.0, one_of test t b.1, subst (λ u. test u ≡ true) (sym fits) (one_of test t b.1))
+types_split (reduce n d r) ts t result fits test h =
+    let a = front_of test (ts ++ t ∷ []) [] h in let b = front_of test ts (t ∷ []) a.0 in (b.0, one_of test t b.1, subst (λ u. test u ≡ true) (sym fits) (one_of test t b.1))
+types_split (generic maps its r) ts t result fits test h = let a = front_of test (ts ++ t ∷ []) (result ∷ []) h in let b = front_of test ts (t ∷ []) a.0 in (b.0, one_of test t b.1, one_of test result a.1)
 
 -- the inputs are tensors but for a fill's
 pub tensors_split : (form : Form) (ts : List ValueType) (t result : ValueType) → ResultFits (written_by (kind_at form ts t)).result result → is_fill form ≡ false
@@ -223,6 +230,8 @@ tensors_split vecmat ts t result fits tensors h = types_split vecmat ts t result
 tensors_split dot ts t result fits tensors h = types_split dot ts t result fits (λ t. not (is_scalar t)) h
 tensors_split (transpose p) ts t result fits tensors h = types_split (transpose p) ts t result fits (λ t. not (is_scalar t)) h
 tensors_split (broadcast d) ts t result fits tensors h = types_split (broadcast d) ts t result fits (λ t. not (is_scalar t)) h
+tensors_split (reduce n d r) ts t result fits tensors h = types_split (reduce n d r) ts t result fits (λ t. not (is_scalar t)) h
+tensors_split (generic maps its r) ts t result fits tensors h = types_split (generic maps its r) ts t result fits (λ t. not (is_scalar t)) h
 
 -- ---- the result has the output's type
 

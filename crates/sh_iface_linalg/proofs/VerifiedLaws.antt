@@ -27,9 +27,10 @@ use Rattle.sh_iface.proofs.ElementOf.{extents_known}
 use Rattle.sh_iface_linalg.specs.Cuts.{entries}
 use Rattle.sh_iface_linalg.specs.Kept.{fits_maps}
 use Rattle.sh_iface_linalg.specs.Loops.{length-range}
+use Rattle.sh_iface_linalg.specs.Reading.{IsNamed}
 use Rattle.sh_iface_linalg.specs.Rules.{both, joined, maps_hold}
 use Rattle.sh_iface_linalg.specs.Structured.{FitsNumbers, FitsWidths, Form, ins_outs_by, inputs_at, is_fill, kind_at, multiplies, output_at}
-use Rattle.sh_iface_linalg.specs.Structured.{fill, matmul, batch_matmul, matvec, vecmat, dot, transpose, broadcast}
+use Rattle.sh_iface_linalg.specs.Structured.{fill, matmul, batch_matmul, matvec, vecmat, dot, transpose, broadcast, reduce, generic}
 use Rattle.sh_iface_linalg.proofs.InterfaceLaws.{ranks_alike, singles_joined}
 use Rattle.sh_iface_linalg.proofs.Pairs.{AreRanks, AreShapes, all_pairs, as_following, first_at, following_one, shapes_are}
 use Rattle.sh_iface_linalg.proofs.PermutedLaws.{same_number}
@@ -132,17 +133,21 @@ module _ (scope : Scope) (ts : List ValueType) (t result : ValueType) where
   agrees dot h = h
   agrees (transpose p) h = h
   agrees (broadcast d) h = h
+  agrees (reduce n d r) h = h
+  agrees (generic maps its r) h = h
 
-  pub numbers_by : (form : Form) → numbers_fit scope (kind_at form ts t) result ≡ true → operands_fit scope (kind_at form ts t) result ≡ true → FitsNumbers form (rank_of (first_type ts)) (rank_of t)
+  pub numbers_by : (form : Form) → IsNamed form → numbers_fit scope (kind_at form ts t) result ≡ true → operands_fit scope (kind_at form ts t) result ≡ true → FitsNumbers form (rank_of (first_type ts)) (rank_of t)
   unfolding numbers_fit operands_fit
-  numbers_by fill h k = tt
-  numbers_by matmul h k = tt
-  numbers_by batch_matmul h k = tt
-  numbers_by matvec h k = tt
-  numbers_by vecmat h k = tt
-  numbers_by dot h k = tt
-  numbers_by (transpose p) h k = (h, same_number _ _ (both _ _ (both _ _ k).1).0)
-  numbers_by (broadcast d) h k = (h, same_number _ _ (both _ _ (both _ _ k).1).0)
+  numbers_by fill named h k = tt
+  numbers_by matmul named h k = tt
+  numbers_by batch_matmul named h k = tt
+  numbers_by matvec named h k = tt
+  numbers_by vecmat named h k = tt
+  numbers_by dot named h k = tt
+  numbers_by (transpose p) named h k = (h, same_number _ _ (both _ _ (both _ _ k).1).0)
+  numbers_by (broadcast d) named h k = (h, same_number _ _ (both _ _ (both _ _ k).1).0)
+  numbers_by (reduce n d b) named h k = absurd named
+  numbers_by (generic maps its b) named h k = absurd named
 
   pub widths_by : (form : Form) → AllByRecursion HasCells ts → HasCells t → length ts ≡ length (inputs_at form 0 0) → operands_fit scope (kind_at form ts t) result ≡ true → FitsWidths form (width_of t) (map width_of ts)
   unfolding operands_fit
@@ -154,32 +159,38 @@ module _ (scope : Scope) (ts : List ValueType) (t result : ValueType) where
   widths_by dot ins out n k = product_widths ts t ins out (both _ _ k).0
   widths_by (transpose p) ins out n k = copied_widths ts t ins out n (both _ _ k).0
   widths_by (broadcast d) ins out n k = copied_widths ts t ins out n (both _ _ k).0
+  widths_by (reduce n d b) ins out m k = tt
+  widths_by (generic maps its b) ins out m k = tt
 
   unless : (a b : Bool) → a ≡ true → (not a || b) ≡ true → b ≡ true
   unless true b h k = k
   unless false b h k = absurd (cc)
 
-  follows_by : (form : Form) → is_fill form ≡ false → numbers_fit scope (kind_at form ts t) result ≡ true → operands_fit scope (kind_at form ts t) result ≡ true
+  follows_by : (form : Form) → IsNamed form → is_fill form ≡ false → numbers_fit scope (kind_at form ts t) result ≡ true → operands_fit scope (kind_at form ts t) result ≡ true
       → fits_maps (map single (inputs_at form (rank_of (first_type ts)) (rank_of t)) ++ single (output_at form (rank_of t)) ∷ []) (ts ++ t ∷ []) ≡ true
   unfolding operands_fit follows_maps
-  follows_by fill no_fill h k = absurd (cc)
-  follows_by matmul no_fill h k = (both _ _ k).1
-  follows_by batch_matmul no_fill h k = (both _ _ k).1
-  follows_by matvec no_fill h k = (both _ _ k).1
-  follows_by vecmat no_fill h k = (both _ _ k).1
-  follows_by dot no_fill h k = (both _ _ k).1
-  follows_by (transpose p) no_fill h k = unless (numbers_fit scope (kind_at (transpose p) ts t) result) _ h (both _ _ (both _ _ k).1).1
-  follows_by (broadcast d) no_fill h k = unless (numbers_fit scope (kind_at (broadcast d) ts t) result) _ h (both _ _ (both _ _ k).1).1
+  follows_by fill named no_fill h k = absurd (cc)
+  follows_by matmul named no_fill h k = (both _ _ k).1
+  follows_by batch_matmul named no_fill h k = (both _ _ k).1
+  follows_by matvec named no_fill h k = (both _ _ k).1
+  follows_by vecmat named no_fill h k = (both _ _ k).1
+  follows_by dot named no_fill h k = (both _ _ k).1
+  follows_by (transpose p) named no_fill h k = unless (numbers_fit scope (kind_at (transpose p) ts t) result) _ h (both _ _ (both _ _ k).1).1
+  follows_by (broadcast d) named no_fill h k = unless (numbers_fit scope (kind_at (broadcast d) ts t) result) _ h (both _ _ (both _ _ k).1).1
+  follows_by (reduce n d b) named no_fill h k = absurd named
+  follows_by (generic maps its b) named no_fill h k = absurd named
 
-inputs_alike : (form : Form) (f r : ℕ) → FitsNumbers form f r → inputs_at form f r ≡ inputs_at form r r
-inputs_alike fill f r h = refl
-inputs_alike matmul f r h = refl
-inputs_alike batch_matmul f r h = refl
-inputs_alike matvec f r h = refl
-inputs_alike vecmat f r h = refl
-inputs_alike dot f r h = refl
-inputs_alike (transpose p) f r h = ap (λ n. inputs_at (transpose p) n r) h.1
-inputs_alike (broadcast d) f r h = refl
+inputs_alike : (form : Form) (f r : ℕ) → IsNamed form → FitsNumbers form f r → inputs_at form f r ≡ inputs_at form r r
+inputs_alike fill f r named h = refl
+inputs_alike matmul f r named h = refl
+inputs_alike batch_matmul f r named h = refl
+inputs_alike matvec f r named h = refl
+inputs_alike vecmat f r named h = refl
+inputs_alike dot f r named h = refl
+inputs_alike (transpose p) f r named h = ap (λ n. inputs_at (transpose p) n r) h.1
+inputs_alike (broadcast d) f r named h = refl
+inputs_alike (reduce n d b) f r named h = absurd named
+inputs_alike (generic maps its b) f r named h = absurd named
 
 pub inputs_counted : (form : Form) (f r : ℕ) → length (inputs_at form f r) ≡ length (inputs_at form 0 0)
 inputs_counted fill f r = refl
@@ -190,6 +201,8 @@ inputs_counted vecmat f r = refl
 inputs_counted dot f r = refl
 inputs_counted (transpose p) f r = refl
 inputs_counted (broadcast d) f r = refl
+inputs_counted (reduce n d b) f r = refl
+inputs_counted (generic maps its b) f r = refl
 
 -- ---- maps that fit
 
@@ -236,6 +249,8 @@ module _ (scope : Scope) (ts : List ValueType) (t result : ValueType) where
   inputs_of dot h k n = h refl
   inputs_of (transpose p) h k n = h refl
   inputs_of (broadcast d) h k n = h refl
+  inputs_of (reduce m d b) h k n = h refl
+  inputs_of (generic maps its b) h k n = h refl
 
   pub outs_tensors : (form : Form) → ResultFits (written_by (kind_at form ts t)).result result → list_all (λ u. not (is_scalar u)) (tensor_types (kind_at form ts t) result) ≡ true → (not (is_scalar t) ≡ true) × (not (is_scalar result) ≡ true)
   unfolding tensor_types
@@ -247,16 +262,20 @@ module _ (scope : Scope) (ts : List ValueType) (t result : ValueType) where
   outs_tensors dot fits h = let a = tensors_split dot ts t result fits refl h in (a.1, a.2)
   outs_tensors (transpose p) fits h = let a = tensors_split (transpose p) ts t result fits refl h in (a.1, a.2)
   outs_tensors (broadcast d) fits h = let a = tensors_split (broadcast d) ts t result fits refl h in (a.1, a.2)
+  outs_tensors (reduce n d r) fits h = let a = tensors_split (reduce n d r) ts t result fits refl h in (a.1, a.2)
+  outs_tensors (generic maps its r) fits h = let a = tensors_split (generic maps its r) ts t result fits refl h in (a.1, a.2)
 
-  pub operands_by : (form : Form) (xs : List ℕ) → OperandsFit (written_by (kind_at form ts t)) xs → length xs ≡ length ts + 1
-  operands_by fill xs h = omega (arith, h)
-  operands_by matmul xs h = omega (arith, h)
-  operands_by batch_matmul xs h = omega (arith, h)
-  operands_by matvec xs h = omega (arith, h)
-  operands_by vecmat xs h = omega (arith, h)
-  operands_by dot xs h = omega (arith, h)
-  operands_by (transpose p) xs h = omega (arith, h)
-  operands_by (broadcast d) xs h = omega (arith, h)
+  pub operands_by : (form : Form) (xs : List ℕ) → IsNamed form → OperandsFit (written_by (kind_at form ts t)) xs → length xs ≡ length ts + 1
+  operands_by fill xs named h = omega (arith, h)
+  operands_by matmul xs named h = omega (arith, h)
+  operands_by batch_matmul xs named h = omega (arith, h)
+  operands_by matvec xs named h = omega (arith, h)
+  operands_by vecmat xs named h = omega (arith, h)
+  operands_by dot xs named h = omega (arith, h)
+  operands_by (transpose p) xs named h = omega (arith, h)
+  operands_by (broadcast d) xs named h = omega (arith, h)
+  operands_by (reduce n d b) xs named h = absurd named
+  operands_by (generic maps its b) xs named h = absurd named
 
   -- ---- the maps of each form fit
 
@@ -288,29 +307,31 @@ module _ (scope : Scope) (ts : List ValueType) (t result : ValueType) where
   abbrev FitsAll : Form → Type 0
   FitsAll form = (length (output_at form n) ≡ n) × (fits_maps (map single (inputs_at form n n ++ range_with_len 0 n ∷ [])) (ts ++ t ∷ []) ≡ true)
 
-  general : (form : Form) → is_fill form ≡ false → n ≤ max_rank → length ts ≡ length (inputs_at form 0 0) → numbers_fit scope (kind_at form ts t) result ≡ true → operands_fit scope (kind_at form ts t) result ≡ true → FitsAll form
-  general form no_fill short count h k =
-      let numbers = numbers_by scope ts t result form h k in
-      let fits = follows_by scope ts t result form no_fill h k in
+  general : (form : Form) → IsNamed form → is_fill form ≡ false → n ≤ max_rank → length ts ≡ length (inputs_at form 0 0) → numbers_fit scope (kind_at form ts t) result ≡ true → operands_fit scope (kind_at form ts t) result ≡ true → FitsAll form
+  general form named no_fill short count h k =
+      let numbers = numbers_by scope ts t result form named h k in
+      let fits = follows_by scope ts t result form named no_fill h k in
       let counted : length ts ≡ length (map single (inputs_at form (rank_of (first_type ts)) (rank_of t))) = count ∙ sym (length-map (inputs_at form (rank_of (first_type ts)) (rank_of t)) single ∙ inputs_counted form (rank_of (first_type ts)) (rank_of t)) in
       let ranks = both (ranks_fit (map single (inputs_at form (rank_of (first_type ts)) (rank_of t)) ++ single (output_at form (rank_of t)) ∷ []) (ts ++ t ∷ [])) _ fits in
       let last = last_rank (map single (inputs_at form (rank_of (first_type ts)) (rank_of t))) (single (output_at form (rank_of t))) ts counted ranks.0 in
       let own : length (output_at form (rank_of t)) ≡ rank_of t = sym (length-map (output_at form (rank_of t)) (λ l. l ∷ [])) ∙ last in
       let out : length (output_at form n) ≡ n = subst (λ r. length (output_at form r) ≡ r) (ranks_alike t) own in
-      let row = row_is form (rank_of (first_type ts)) n out short (subst (FitsNumbers form (rank_of (first_type ts))) (ranks_alike t) numbers) in
-      let ins : inputs_at form (rank_of (first_type ts)) (rank_of t) ≡ inputs_at form n n = inputs_alike form (rank_of (first_type ts)) (rank_of t) numbers ∙ ap (λ r. inputs_at form r r) (ranks_alike t) in
+      let row = row_is form (rank_of (first_type ts)) n named out short (subst (FitsNumbers form (rank_of (first_type ts))) (ranks_alike t) numbers) in
+      let ins : inputs_at form (rank_of (first_type ts)) (rank_of t) ≡ inputs_at form n n = inputs_alike form (rank_of (first_type ts)) (rank_of t) named numbers ∙ ap (λ r. inputs_at form r r) (ranks_alike t) in
       let outs : output_at form (rank_of t) ≡ range_with_len 0 n = ap (output_at form) (ranks_alike t) ∙ row.output in
       let same : map single (inputs_at form (rank_of (first_type ts)) (rank_of t)) ++ single (output_at form (rank_of t)) ∷ [] ≡ map single (inputs_at form n n ++ range_with_len 0 n ∷ []) =
       ap₂ (λ ms o. map single ms ++ single o ∷ []) ins outs ∙ sym (singles_joined (inputs_at form n n) (range_with_len 0 n)) in
       (out, subst (λ ms. fits_maps ms (ts ++ t ∷ []) ≡ true) same fits)
 
-  pub fits_by : (form : Form) (w : Width) → t ≡ tensor_of (known_dims (shape_of t)) w → n ≤ max_rank → length ts ≡ length (inputs_at form 0 0) → numbers_fit scope (kind_at form ts t) result ≡ true → operands_fit scope (kind_at form ts t) result ≡ true → FitsAll form
+  pub fits_by : (form : Form) (w : Width) → IsNamed form → t ≡ tensor_of (known_dims (shape_of t)) w → n ≤ max_rank → length ts ≡ length (inputs_at form 0 0) → numbers_fit scope (kind_at form ts t) result ≡ true → operands_fit scope (kind_at form ts t) result ≡ true → FitsAll form
   unfolding operands_fit
-  fits_by fill w is short count h k = (length-range 0 n, filled_fits ts count (both _ _ k).1 (own_fits w is))
-  fits_by matmul w is short count h k = general matmul refl short count h k
-  fits_by batch_matmul w is short count h k = general batch_matmul refl short count h k
-  fits_by matvec w is short count h k = general matvec refl short count h k
-  fits_by vecmat w is short count h k = general vecmat refl short count h k
-  fits_by dot w is short count h k = general dot refl short count h k
-  fits_by (transpose p) w is short count h k = general (transpose p) refl short count h k
-  fits_by (broadcast d) w is short count h k = general (broadcast d) refl short count h k
+  fits_by fill w named is short count h k = (length-range 0 n, filled_fits ts count (both _ _ k).1 (own_fits w is))
+  fits_by matmul w named is short count h k = general matmul named refl short count h k
+  fits_by batch_matmul w named is short count h k = general batch_matmul named refl short count h k
+  fits_by matvec w named is short count h k = general matvec named refl short count h k
+  fits_by vecmat w named is short count h k = general vecmat named refl short count h k
+  fits_by dot w named is short count h k = general dot named refl short count h k
+  fits_by (transpose p) w named is short count h k = general (transpose p) named refl short count h k
+  fits_by (broadcast d) w named is short count h k = general (broadcast d) named refl short count h k
+  fits_by (reduce m d b) w named is short count h k = absurd named
+  fits_by (generic maps its b) w named is short count h k = absurd named

@@ -1,7 +1,7 @@
 -- The local part of a structured operation makes the cut of the result of the cuts of the operands.
-use Rattle.std.proofs.Common.{◌≡◌, ◌≢◌, ℕ, zero, suc, ◌+◌, ◌-◌, ◌<◌, Bool, true, false, List, [], ◌∷◌, ◌++◌, map, take, drop, length, Option, Some, None, refl, ap, ap₂, sym, ◌∙◌, arith, subst, inl, inr, ◌⊎◌}
+use Rattle.std.proofs.Common.{◌≡◌, ◌≢◌, ℕ, zero, suc, ◌+◌, ◌-◌, ◌<◌, Bool, true, false, List, [], ◌∷◌, ◌++◌, map, take, drop, length, Option, Some, None, refl, ap, ap₂, sym, ◌∙◌, arith, subst, inl, inr, ◌⊎◌, append_assoc}
 use Rattle.std.proofs.lemmas.Bool.{cases_Bool}
-use Rattle.std.proofs.lemmas.List.{append-nil, drop_all, length-append, length-map, take_all}
+use Rattle.std.proofs.lemmas.List.{drop_all, length-append, length-map, take_all}
 use Rattle.std.proofs.lemmas.List.Elements.{recursion_from_All}
 use Rattle.std.specs.List.{AllByRecursion, range_with_len}
 use Rattle.std.specs.Prelude.{All, ◌&&◌, flat_map, get_or, option_map, pos, if◌then◌else◌}
@@ -49,10 +49,10 @@ use Rattle.sh_iface.specs.Valid.{HaveOwnAxes, IsApartFrom, IsValid}
 use Rattle.sh_iface.specs.Whole.{leading_scalars, whole_of}
 use Rattle.sh_iface.specs.Elements.{tensor_of}
 use Rattle.sh_iface.proofs.ElementCut.{local_extents}
-use Rattle.sh_iface_linalg.specs.Structured.{FitsWidths, Form, IsStructured, known, splits_reduction, Structured, combining_kind, fill_op, first_rank, input_type, input_types, inputs_at, ins_outs_by, is_fill, kind_at, kind_of_form, local_loop, loop_by, neutral_op, op_by, own_type, part_by, scalar_ins, structured_meaning, structured_nest, structured_part, tensor_ins, value_by, whole_op}
-use Rattle.sh_iface_linalg.specs.Structured.{fill, matmul, batch_matmul, matvec, vecmat, dot, transpose, broadcast}
-use Rattle.sh_iface_linalg.specs.Loops.{loops_counted}
-use Rattle.sh_iface_linalg.specs.Nests.{is_operation, kind_of_plain, plain_by, plain_keeps, plain_of, term_by}
+use Rattle.sh_iface_linalg.specs.Structured.{FitsRegion, FitsWidths, Form, IsStructured, known, operands_in, reducing_names, renumbered_form, scalar_widths, splits_reduction, Structured, combining_kind, fill_op, first_rank, input_type, input_types, inputs_at, ins_outs_by, is_fill, kind_at, kind_of_form, local_loop, loop_by, neutral_op, op_by, own_type, part_by, structured_meaning, structured_nest, structured_part, tensor_ins, value_by, whole_op}
+use Rattle.sh_iface_linalg.specs.Structured.{fill, matmul, batch_matmul, matvec, vecmat, dot, transpose, broadcast, reduce, generic}
+use Rattle.sh_iface_linalg.specs.Loops.{length-range, loops_counted}
+use Rattle.sh_iface_linalg.specs.Nests.{HasScalarsLast, is_operation, kind_of_plain, plain_by, plain_keeps, plain_of, same_fill}
 use Rattle.sh_iface_linalg.specs.Divisions.{D, are_split, dims_local, divided_by, division_is, no_dims, out_admitted, ins_admitted, split_is, splits_are, splits_parallel, type_is}
 
 -- ---- the types of local tensors
@@ -67,6 +67,8 @@ typing_is vecmat ins out = refl
 typing_is dot ins out = refl
 typing_is (transpose p) ins out = refl
 typing_is (broadcast d) ins out = refl
+typing_is (reduce n d r) ins out = refl
+typing_is (generic maps its r) ins out = refl
 
 leading_is : (form : Form) (ins : List ValueType) (out : ValueType) → leading_scalars (kind_at form ins out) ≡ (if is_fill form then length ins else 0)
 leading_is fill ins out = refl
@@ -77,15 +79,17 @@ leading_is vecmat ins out = refl
 leading_is dot ins out = refl
 leading_is (transpose p) ins out = refl
 leading_is (broadcast d) ins out = refl
+leading_is (reduce n d r) ins out = refl
+leading_is (generic maps its r) ins out = refl
 
-all_known : (types : List ValueType) (out : ValueType) (shapes : List (List ℕ)) (shape : List ℕ) → length types ≡ length shapes → have_all_extents types shapes ≡ true → have_extents (dims_of out) shape ≡ true
-    → have_all_extents (types ++ out ∷ []) (shapes ++ shape ∷ []) ≡ true
-all_known [] out [] shape n h o = rw o refl
-all_known [] out (s ∷ shapes) shape n h o = absurd (omega (arith, n))
-all_known (t ∷ types) out [] shape n h o = absurd (omega (arith, n))
-all_known (t ∷ types) out (s ∷ shapes) shape n h o = go (have_extents (dims_of t) s) h (λ more. all_known types out shapes shape (omega (arith, n)) more o)
+all_known : (types : List ValueType) (out : ValueType) (shapes : List (List ℕ)) (shape : List ℕ) (others : List (List ℕ)) → length types ≡ length shapes → have_all_extents types shapes ≡ true → have_extents (dims_of out) shape ≡ true
+    → have_all_extents (types ++ out ∷ []) (shapes ++ shape ∷ others) ≡ true
+all_known [] out [] shape others n h o = rw o refl
+all_known [] out (s ∷ shapes) shape others n h o = absurd (omega (arith, n))
+all_known (t ∷ types) out [] shape others n h o = absurd (omega (arith, n))
+all_known (t ∷ types) out (s ∷ shapes) shape others n h o = go (have_extents (dims_of t) s) h (λ more. all_known types out shapes shape others (omega (arith, n)) more o)
   where
-    go : (b : Bool) → (b && have_all_extents types shapes) ≡ true → (have_all_extents types shapes ≡ true → have_all_extents (types ++ out ∷ []) (shapes ++ shape ∷ []) ≡ true) → (b && have_all_extents (types ++ out ∷ []) (shapes ++ shape ∷ [])) ≡ true
+    go : (b : Bool) → (b && have_all_extents types shapes) ≡ true → (have_all_extents types shapes ≡ true → have_all_extents (types ++ out ∷ []) (shapes ++ shape ∷ others) ≡ true) → (b && have_all_extents (types ++ out ∷ []) (shapes ++ shape ∷ others)) ≡ true
     go true h f = f h
     go false h f = absurd (cc)
 
@@ -209,7 +213,7 @@ swapped (Some a) (Some b) u v e = ap (λ (o : Option (List TensorValue)). option
 
 module _ (g : GridValue) (D : ℕ → Dimension) (loops : ℕ) (form : Form) (v : Width) (out : Operand) (whole_fill local_fill : Op) (whole : List TensorValue → Option TensorValue) where
   abbrev filling : PlainNest
-  filling = plain_by loops form (record { dims = []; width = v } ∷ []) out
+  filling = plain_by loops form (record { dims = []; width = v } ∷ []) out []
 
   abbrev two_splits : List TensorSplit
   two_splits = split_by g D out ∷ scalar_split g v ∷ []
@@ -254,6 +258,8 @@ no_kind vecmat b h = absurd (cc)
 no_kind dot b h = absurd (cc)
 no_kind (transpose p) b h = absurd (cc)
 no_kind (broadcast d) b h = absurd (cc)
+no_kind (reduce n d r) b h = absurd (cc)
+no_kind (generic maps its r) b h = absurd (cc)
 
 one_scalar : (ins : List Operand) (w : Width) → [] ∷ [] ≡ map (λ (x : Operand). x.dims) ins → map (λ (x : Operand). x.width) ins ≡ w ∷ [] → ins ≡ record { dims = []; width = w } ∷ []
 one_scalar [] w h fits = absurd (cc)
@@ -271,6 +277,46 @@ scalar_input vecmat ins out b f r h fits = absurd (cc)
 scalar_input dot ins out b f r h fits = absurd (cc)
 scalar_input (transpose p) ins out b f r h fits = absurd (cc)
 scalar_input (broadcast d) ins out b f r h fits = absurd (cc)
+scalar_input (reduce n d c) ins out b f r h fits = absurd (cc)
+scalar_input (generic maps its c) ins out b f r h fits = absurd (cc)
+
+-- and no scalars of a region
+pub no_captured : (form : Form) (scalars ins : List Width) (w : Width) → is_fill form ≡ true → FitsRegion form scalars ins w → scalars ≡ []
+no_captured fill scalars ins w b h = h
+no_captured matmul scalars ins w b h = absurd (cc)
+no_captured batch_matmul scalars ins w b h = absurd (cc)
+no_captured matvec scalars ins w b h = absurd (cc)
+no_captured vecmat scalars ins w b h = absurd (cc)
+no_captured dot scalars ins w b h = absurd (cc)
+no_captured (transpose p) scalars ins w b h = absurd (cc)
+no_captured (broadcast d) scalars ins w b h = absurd (cc)
+no_captured (reduce n d c) scalars ins w b h = absurd (cc)
+no_captured (generic maps its c) scalars ins w b h = absurd (cc)
+
+-- ---- the names of the scalars
+
+range_dropped : (b k c n : ℕ) → n ≡ k + c → drop k (range_with_len b n) ≡ range_with_len (b + k) c
+range_dropped b zero c n e = let z : b ≡ b + 0 = omega arith in let m : n ≡ c = omega (arith, e) in ap₂ range_with_len z m
+range_dropped b (suc k) c zero e = absurd (omega (arith, e))
+range_dropped b (suc k) c (suc n) e = range_dropped (b + 1) k c n (omega (arith, e)) ∙ (let z : b + 1 + k ≡ b + suc k = omega arith in ap (λ m. range_with_len m c) z)
+
+behind_front : (xs ys : List ℕ) (x n : ℕ) → length xs ≡ n → drop (n + 1) (xs ++ x ∷ ys) ≡ ys
+behind_front xs ys x n long = let z : n + 1 ≡ suc n = omega arith in ap (λ m. drop m (xs ++ x ∷ ys)) z ∙ go xs n long
+  where
+    go : (xs : List ℕ) (n : ℕ) → length xs ≡ n → drop (suc n) (xs ++ x ∷ ys) ≡ ys
+    go [] zero e = refl
+    go [] (suc n) e = absurd (omega (arith, e))
+    go (y ∷ xs) zero e = absurd (omega (arith, e))
+    go (y ∷ xs) (suc n) e = go xs n (omega (arith, e))
+
+pub scalars_last : (e : Structured) → HasScalarsLast e (range_with_len 0 (operands_in e))
+scalars_last e = range_dropped 0 (length e.ins + 1) (length e.captured) (operands_in e) refl ∙ (let z : 0 + (length e.ins + 1) ≡ length e.ins + 1 = omega arith in ap (λ n. range_with_len n (length e.captured)) z)
+
+pub scalars_reducing : (e : Structured) (outs : ℕ) → HasScalarsLast e (reducing_names e outs)
+scalars_reducing e outs = behind_front (range_with_len 0 (length e.ins)) (range_with_len (length e.ins + 1) (length e.captured)) outs (length e.ins) (length-range 0 (length e.ins))
+
+pub none_last : (e : Structured) (a b : ℕ) → length e.ins ≡ 1 → length e.captured ≡ 0 → HasScalarsLast e (a ∷ b ∷ [])
+none_last e a b one none = ap (λ n. drop (n + 1) (a ∷ b ∷ [])) one ∙ ap (range_with_len (length e.ins + 1)) (sym none)
 
 module _ (e : Structured) (is : IsStructured e) (g : GridValue) (o : OptionValue) (valid : IsValid (structured_nest e) g o) where
   abbrev E : ℕ → Dimension
@@ -303,7 +349,10 @@ module _ (e : Structured) (is : IsStructured e) (g : GridValue) (o : OptionValue
         | inr b ↦ tensors_known c lt b e.ins (ins_admitted e is g o valid)
       ]
 
-  shapes_are : (c : ℕ) (ins : List Operand) → map (λ s. local_shape s.sharding c) (map (split_by g E) ins ++ split_by g E e.out ∷ []) ≡ map (λ (x : Operand). local_shape (sharding_on g E x.dims) c) ins ++ local_shape (sharding_on g E e.out.dims) c ∷ []
+  abbrev scalar_shapes : ℕ → List (List ℕ)
+  scalar_shapes c = map (λ s. local_shape s.sharding c) (map (scalar_split g) e.captured)
+
+  shapes_are : (c : ℕ) (ins : List Operand) → map (λ s. local_shape s.sharding c) (map (split_by g E) ins ++ split_by g E e.out ∷ map (scalar_split g) e.captured) ≡ map (λ (x : Operand). local_shape (sharding_on g E x.dims) c) ins ++ local_shape (sharding_on g E e.out.dims) c ∷ scalar_shapes c
   shapes_are c [] = refl
   shapes_are c (x ∷ ins) = ap (λ ss. local_shape (sharding_on g E x.dims) c ∷ ss) (shapes_are c ins)
 
@@ -314,29 +363,37 @@ module _ (e : Structured) (is : IsStructured e) (g : GridValue) (o : OptionValue
   local_types operands name = record {
     operands = λ c lt.
         let counted : length (input_types e local) ≡ length (in_shapes c) = length-map e.ins (λ (x : Operand). input_type e.form (map local x.dims) x.width) ∙ sym (length-map e.ins (λ (x : Operand). local_shape (sharding_on g E x.dims) c)) in
-        ap₂ (λ types shapes. have_all_extents types shapes) (typing_is e.form (input_types e local) (tensor_of (map local e.out.dims) e.out.width)) (shapes_are c e.ins)
-        ∙ all_known (input_types e local) (tensor_of (map local e.out.dims) e.out.width) (in_shapes c) (local_shape (sharding_on g E e.out.dims) c) counted (inputs_known c lt) (result_known c lt);
+        ap₂ (λ types shapes. have_all_extents types shapes) (typing_is (renumbered_form (length e.ins + 1) (name + 1) e.form) (input_types e local) (tensor_of (map local e.out.dims) e.out.width)) (shapes_are c e.ins)
+        ∙ all_known (input_types e local) (tensor_of (map local e.out.dims) e.out.width) (in_shapes c) (local_shape (sharding_on g E e.out.dims) c) (scalar_shapes c) counted (inputs_known c lt) (result_known c lt);
     result = λ c lt. result_known c lt;
   }
 
   -- ---- how many
 
-  pub splits_counted : length (splits_by g E (plain_of e)) ≡ length e.ins + 1
-  splits_counted = length-append (map (split_by g E) e.ins) (split_by g E e.out ∷ []) ∙ ap (λ n. n + 1) (length-map e.ins (split_by g E))
+  pub splits_counted : length (splits_by g E (plain_of e)) ≡ operands_in e
+  splits_counted =
+      let a = length-append (map (split_by g E) e.ins) (split_by g E e.out ∷ map (scalar_split g) e.captured) in
+      let b = length-map e.ins (split_by g E) in
+      let c = length-map e.captured (scalar_split g) in
+      omega (arith, a, b, c)
+
+  -- the operation on whole tensors is such a nest
+  whole_operation : IsOperationOf (plain_of e) (whole_op e)
+  whole_operation = is_operation e is (known e.extents) (range_with_len 0 (operands_in e)) (operands_in e) (scalars_last e) (omega arith)
 
   -- ---- where nothing is combined
 
   part_parallel : combining_kind e o ≡ None → is_fill e.form ≡ false
-      → IsLocalPart (steps_on g.extents) tensor_splitting (given (whole_op e) alone) (splits_by g E (plain_of e)) (split_by g E e.out) (op_by e local (range_with_len 0 (length e.ins + 1)) (length e.ins + 1) ∷ [])
+      → IsLocalPart (steps_on g.extents) tensor_splitting (given (whole_op e) alone) (splits_by g E (plain_of e)) (split_by g E e.out) (op_by e local (range_with_len 0 (operands_in e)) (operands_in e) ∷ [])
   part_parallel none tensors =
-      parallel_law g E (plain_of e) (whole_op e) (op_by e local (range_with_len 0 (length e.ins + 1)) (length e.ins + 1))
+      parallel_law g E (plain_of e) (whole_op e) (op_by e local (range_with_len 0 (operands_in e)) (operands_in e))
       (record {
         split = are_split e is g o valid;
         parallel = splits_parallel e is g o valid none;
         keeps = plain_keeps e is;
-        whole = is_operation e is _ _ _;
-        local = is_operation e is local (range_with_len 0 (length e.ins + 1)) (length e.ins + 1);
-        types = local_types (range_with_len 0 (length e.ins + 1)) (length e.ins + 1);
+        whole = whole_operation;
+        local = is_operation e is local (range_with_len 0 (operands_in e)) (operands_in e) (scalars_last e) (omega arith);
+        types = local_types (range_with_len 0 (operands_in e)) (operands_in e);
         operands = ap (range_with_len 0) (sym splits_counted);
         defines = ap (λ n. Some n) (sym splits_counted);
       })
@@ -360,7 +417,7 @@ module _ (e : Structured) (is : IsStructured e) (g : GridValue) (o : OptionValue
       ap_apart : {a b c d : List ℕ} → a ≡ c → b ≡ d → AreApart c d → AreApart a b
       ap_apart {b = b} {c = c} same other h = subst (λ xs. AreApart xs b) (sym same) (subst (AreApart c) (sym other) h)
 
-  filled_types : (k : Kind) → HasLocalTypes g (fill_division E e.out) (fill_nest e.out) (fill_op e local (length e.ins) (length e.ins + 1))
+  filled_types : (k : Kind) → HasLocalTypes g (fill_division E e.out) (fill_nest e.out) (fill_op e local (length e.ins) (operands_in e))
   unfolding typing_of
   filled_types k = record {
     operands = λ c lt. let known = result_filled c lt in rw known refl;
@@ -370,40 +427,40 @@ module _ (e : Structured) (is : IsStructured e) (g : GridValue) (o : OptionValue
       result_filled : (c : ℕ) → c < cell_count g.extents → have_extents (map local e.out.dims) (local_shape (sharding_on g (fill_division E e.out) (range_with_len 0 (length e.out.dims))) c) ≡ true
       result_filled c lt = subst (λ ds. have_extents (map local e.out.dims) (map (local_extent g.extents c) ds) ≡ true) (sym (entries E e.out.dims)) (result_known c lt)
 
-  fill_structure : structure_of (fill_op e local (length e.ins) (length e.ins + 1)).kind ≡ Some (copy (ins_outs_by (Scalar e.out.width ∷ []) (own_type e local)) [])
+  fill_structure : structure_of (fill_op e local (length e.ins) (operands_in e)).kind ≡ Some (copy (ins_outs_by (Scalar e.out.width ∷ []) (own_type e local)) [])
   unfolding structure_of
   fill_structure = refl
 
-  part_split : (k : Kind) → kind_of_form e.form ≡ Some k → (outs last : ℕ) (axes : List ℕ) (type : ValueType) → outs ≡ length e.ins → last ≡ suc (suc (length e.ins + 1))
+  part_split : (k : Kind) → kind_of_form e.form ≡ Some k → (outs last : ℕ) (axes : List ℕ) (type : ValueType) → outs ≡ length e.ins → last ≡ suc (suc (operands_in e))
       → axes ≡ nest.reduction_axes E (plain_of e) → type ≡ own_type e local → HaveOwnAxes o
       → IsLocalPart (steps_on g.extents) tensor_splitting (given (whole_op e) alone) (splits_by g E (plain_of e)) (split_by g E e.out)
-      (neutral_op e local k (length e.ins + 1) ∷ fill_op e local (length e.ins) (length e.ins + 1) ∷ op_by e local (range_with_len 0 (length e.ins) ++ suc (length e.ins + 1) ∷ []) (suc (suc (length e.ins + 1)))
+      (neutral_op e local k (operands_in e) ∷ fill_op e local (length e.ins) (operands_in e) ∷ op_by e local (reducing_names e (suc (operands_in e))) (suc (suc (operands_in e)))
       ∷ reduce_op g axes k last type e.place ∷ join_op k outs last type e.place ∷ [])
   part_split k has outs last axes type outs_is last_is axes_are type_is apart =
-      let count = splits_counted in
-      let name : length e.ins + 1 ≡ length (splits_by g E (plain_of e)) = sym splits_counted in
-      let second : suc (length e.ins + 1) ≡ suc (length (splits_by g E (plain_of e))) = ap suc name in
-      let third : suc (suc (length e.ins + 1)) ≡ suc (suc (length (splits_by g E (plain_of e)))) = ap (λ n. suc (suc n)) name in
+      let kinded = kind_of_plain e is k has in
+      let name : operands_in e ≡ length (splits_by g E (plain_of e)) = sym splits_counted in
+      let second : suc (operands_in e) ≡ suc (length (splits_by g E (plain_of e))) = ap suc name in
+      let third : suc (suc (operands_in e)) ≡ suc (suc (length (splits_by g E (plain_of e)))) = ap (λ n. suc (suc n)) name in
       let fourth : suc last ≡ suc (suc (suc (length (splits_by g E (plain_of e))))) = ap suc (last_is ∙ third) in
       let fits : FitsLocal g E e.out type = λ c lt. subst (λ t. have_extents (dims_of t) (local_shape (sharding_on g E e.out.dims) c) ≡ true) (sym type_is) (result_known c lt) in
       let width : width_of type ≡ e.out.width = ap width_of type_is in
-      split_law g E (plain_of e) k (term_by e.ins e.out) (whole_op e) (neutral_op e local k (length e.ins + 1)) (fill_op e local (length e.ins) (length e.ins + 1))
-      (op_by e local (range_with_len 0 (length e.ins) ++ suc (length e.ins + 1) ∷ []) (suc (suc (length e.ins + 1)))) (reduce_op g axes k last type e.place) (join_op k outs last type e.place)
+      split_law g E (plain_of e) k kinded.term (whole_op e) (neutral_op e local k (operands_in e)) (fill_op e local (length e.ins) (operands_in e))
+      (op_by e local (reducing_names e (suc (operands_in e))) (suc (suc (operands_in e)))) (reduce_op g axes k last type e.place) (join_op k outs last type e.place)
       (record {
         split = are_split e is g o valid;
         apart = loops_apart apart;
-        has_kind = kind_of_plain e is k has;
-        whole = is_operation e is _ _ _;
-        neutral = neutral_is e local k (length e.ins + 1);
+        has_kind = kinded.has;
+        whole = whole_operation;
+        neutral = neutral_is e local k (operands_in e);
         neutral_step = record { alone = refl; operands = refl; defines = ap (λ n. Some n) name };
-        filled = fills_are (ins_outs_by (Scalar e.out.width ∷ []) (own_type e local)) e.out (fill_op e local (length e.ins) (length e.ins + 1)) fill_structure (length-map e.out.dims local) refl;
+        filled = fills_are (ins_outs_by (Scalar e.out.width ∷ []) (own_type e local)) e.out (fill_op e local (length e.ins) (operands_in e)) fill_structure (length-map e.out.dims local) refl;
         filled_types = filled_types k;
         filled_step = record { alone = refl; operands = ap (λ n. n ∷ length e.ins ∷ []) name; defines = ap (λ n. Some n) second };
-        local = is_operation e is local (range_with_len 0 (length e.ins) ++ suc (length e.ins + 1) ∷ []) (suc (suc (length e.ins + 1)));
-        local_types = local_types (range_with_len 0 (length e.ins) ++ suc (length e.ins + 1) ∷ []) (suc (suc (length e.ins + 1)));
+        local = is_operation e is local (reducing_names e (suc (operands_in e))) (suc (suc (operands_in e))) (scalars_reducing e (suc (operands_in e))) (omega arith);
+        local_types = local_types (reducing_names e (suc (operands_in e))) (suc (suc (operands_in e)));
         local_step = record {
-          alone = is_local (kind_at e.form (input_types e local) (own_type e local)) _ (is_operation e is local [] 0).is;
-          operands = ap (λ n. range_with_len 0 (length e.ins) ++ n ∷ []) second;
+          alone = is_local (kind_at (renumbered_form (length e.ins + 1) (suc (suc (operands_in e)) + 1) e.form) (input_types e local) (own_type e local)) _ (is_operation e is local (reducing_names e (suc (operands_in e))) (suc (suc (operands_in e))) (scalars_reducing e (suc (operands_in e))) (omega arith)).is;
+          operands = ap₂ (λ n m. range_with_len 0 (length e.ins) ++ n ∷ range_with_len m (length e.captured)) second (let z : length e.ins + 1 ≡ suc (length e.ins) = omega arith in z);
           defines = ap (λ n. Some n) third;
         };
         combination = record {
@@ -428,8 +485,11 @@ module _ (e : Structured) (is : IsStructured e) (g : GridValue) (o : OptionValue
   counted_tensors tensors =
       length-map (tensor_ins e ++ e.out ∷ []) (value_by e.extents) ∙ length-append (tensor_ins e) (e.out ∷ []) ∙ ap (λ (b : Bool). length (if b then [] else e.ins) + 1) tensors
 
-  pub no_scalars : is_fill e.form ≡ false → scalar_ins e ≡ []
-  no_scalars tensors = ap (λ (b : Bool). if b then e.ins else []) tensors
+  pub own_scalars : is_fill e.form ≡ false → scalar_widths e ≡ e.captured
+  own_scalars tensors = ap (λ (b : Bool). if b then map (λ (x : Operand). x.width) e.ins else e.captured) tensors
+
+  pub all_counted : is_fill e.form ≡ false → operand_count (structured_meaning e) ≡ operands_in e
+  all_counted tensors = ap₂ (λ a b. a + b) (counted_tensors tensors) (ap (λ (ws : List Width). length ws) (own_scalars tensors))
 
   split_of_result : result_split (structured_meaning e) g o ≡ split_by g E e.out
   unfolding structured_nest
@@ -446,9 +506,10 @@ module _ (e : Structured) (is : IsStructured e) (g : GridValue) (o : OptionValue
   splits_of_operands : is_fill e.form ≡ false → operand_splits (structured_meaning e) g o ≡ splits_by g E (plain_of e)
   unfolding structured_nest
   splits_of_operands tensors =
-      ap₂ (λ ins ws. map (split_of g (structured_nest e) o) (map (value_by e.extents) (ins ++ e.out ∷ [])) ++ map (iface_scalar_split g) (map (λ (x : Operand). x.width) ws))
-      (ap (λ (b : Bool). if b then [] else e.ins) tensors) (no_scalars tensors)
-      ∙ append-nil (map (split_of g (structured_nest e) o) (map (value_by e.extents) (e.ins ++ e.out ∷ []))) ∙ splits_more e.ins
+      ap₂ (λ ins ws. map (split_of g (structured_nest e) o) (map (value_by e.extents) (ins ++ e.out ∷ [])) ++ map (iface_scalar_split g) ws)
+      (ap (λ (b : Bool). if b then [] else e.ins) tensors) (own_scalars tensors)
+      ∙ ap (λ ss. ss ++ map (iface_scalar_split g) e.captured) (splits_more e.ins)
+      ∙ append_assoc (map (split_by g E) e.ins) (split_by g E e.out ∷ []) (map (scalar_split g) e.captured)
 
   -- the axes along which its reduction loops are split
   axes_from : (k : Kind) → kind_of_form e.form ≡ Some k → (b n : ℕ) (rest : OptionValue) → length rest ≡ n → ((i : ℕ) → split_at rest i ≡ split_at o (b + i))
@@ -479,7 +540,8 @@ module _ (e : Structured) (is : IsStructured e) (g : GridValue) (o : OptionValue
   whole_is : is_fill e.form ≡ false → (ts : List TensorValue) → whole_of (whole_op e) ts ≡ given (whole_op e) alone ts
   unfolding whole_of
   whole_is tensors ts =
-      let none = leading_is e.form (input_types e (known e.extents)) (whole_op e).result ∙ ap (λ (b : Bool). if b then length (input_types e (known e.extents)) else 0) tensors in
+      let none = leading_is (renumbered_form (length e.ins + 1) (operands_in e + 1) e.form) (input_types e (known e.extents)) (whole_op e).result
+      ∙ ap (λ (b : Bool). if b then length (input_types e (known e.extents)) else 0) (same_fill (length e.ins + 1) (operands_in e + 1) e.form) ∙ ap (λ (b : Bool). if b then length (input_types e (known e.extents)) else 0) tensors in
       ap (λ n. given (whole_op e) alone (drop (length ts - n) ts ++ take (length ts - n) ts)) none
       ∙ (let z : length ts - 0 ≡ length ts = omega arith in ap (λ n. given (whole_op e) alone (drop n ts ++ take n ts)) z)
       ∙ ap (given (whole_op e) alone) (drop_none ts)
@@ -487,7 +549,8 @@ module _ (e : Structured) (is : IsStructured e) (g : GridValue) (o : OptionValue
   whole_swapped : is_fill e.form ≡ true → length e.ins ≡ 1 → (a b : TensorValue) → whole_of (whole_op e) (a ∷ b ∷ []) ≡ given (whole_op e) alone (b ∷ a ∷ [])
   unfolding whole_of
   whole_swapped filling one a b =
-      let first = leading_is e.form (input_types e (known e.extents)) (whole_op e).result ∙ ap (λ (b : Bool). if b then length (input_types e (known e.extents)) else 0) filling
+      let first = leading_is (renumbered_form (length e.ins + 1) (operands_in e + 1) e.form) (input_types e (known e.extents)) (whole_op e).result
+      ∙ ap (λ (b : Bool). if b then length (input_types e (known e.extents)) else 0) (same_fill (length e.ins + 1) (operands_in e + 1) e.form) ∙ ap (λ (b : Bool). if b then length (input_types e (known e.extents)) else 0) filling
       ∙ length-map e.ins (λ (x : Operand). input_type e.form (map (known e.extents) x.dims) x.width) ∙ one in
       ap (λ n. given (whole_op e) alone (drop (2 - n) (a ∷ b ∷ []) ++ take (2 - n) (a ∷ b ∷ []))) first
 
@@ -517,10 +580,10 @@ module _ (e : Structured) (is : IsStructured e) (g : GridValue) (o : OptionValue
 
   tensors_part : (k : Option Kind) → combining_kind e o ≡ k → is_fill e.form ≡ false → Cuts (instructions (structured_meaning e) g o)
   tensors_part None none tensors =
-      subst Cuts (sym (instructions_by None none ∙ ap (λ ns. op_by e local ns (length e.ins + 1) ∷ []) (ap (λ (b : Bool). if b then 1 ∷ 0 ∷ [] else range_with_len 0 (length e.ins + 1)) tensors)))
+      subst Cuts (sym (instructions_by None none ∙ ap (λ ns. op_by e local ns (operands_in e) ∷ []) (ap (λ (b : Bool). if b then 1 ∷ 0 ∷ [] else range_with_len 0 (operands_in e)) tensors)))
       (as_meant _ tensors (part_parallel none tensors))
   tensors_part (Some k) has tensors =
-      let count : operand_count (structured_meaning e) ≡ length e.ins + 1 = ap₂ (λ a b. a + b) (counted_tensors tensors) (ap (λ (xs : List Operand). length (map (λ (x : Operand). x.width) xs)) (no_scalars tensors)) ∙ (let z : length e.ins + 1 + 0 ≡ length e.ins + 1 = omega arith in z) in
+      let count = all_counted tensors in
       let tensors_count = counted_tensors tensors in
       let form = form_kind k has in
       subst Cuts (sym (instructions_by (Some k) has))
@@ -535,22 +598,31 @@ module _ (e : Structured) (is : IsStructured e) (g : GridValue) (o : OptionValue
   fill_part filling =
       let none : combining_kind e o ≡ None = no_kind e.form (splits_reduction (structured_nest e).loops o) filling in
       let ins : e.ins ≡ record { dims = []; width = e.out.width } ∷ [] = scalar_input e.form e.ins e.out filling (first_rank e.ins) (length e.out.dims) is.inputs is.widths in
+      let own : e.captured ≡ [] = no_captured e.form e.captured (map (λ (x : Operand). x.width) e.ins) e.out.width filling is.region in
       let one : length e.ins ≡ 1 = ap length ins in
+      let zero_more : length e.captured ≡ 0 = ap length own in
+      let two : operands_in e ≡ 2 = omega (arith, one, zero_more) in
+      let last : HasScalarsLast e (1 ∷ 0 ∷ []) = none_last e 1 0 one zero_more in
+      let local_is = is_operation e is local (1 ∷ 0 ∷ []) 2 last (omega (arith, two)) in
       let part = filled_part g E (length e.extents) e.form e.out.width e.out (whole_op e) (op_by e local (1 ∷ 0 ∷ []) 2) (whole_of (whole_op e))
-      (subst (λ xs. AreSplit g E (plain_by (length e.extents) e.form xs e.out)) ins (are_split e is g o valid))
+      (on_fill (λ nest. AreSplit g E nest) ins own (are_split e is g o valid))
       (splits_parallel e is g o valid none)
-      (subst (λ xs. KeepsWidth (plain_by (length e.extents) e.form xs e.out)) ins (plain_keeps e is))
-      (subst (λ xs. IsOperationOf (plain_by (length e.extents) e.form xs e.out) (whole_op e)) ins (is_operation e is _ _ _))
-      (subst (λ xs. IsOperationOf (plain_by (length e.extents) e.form xs e.out) (op_by e local (1 ∷ 0 ∷ []) 2)) ins (is_operation e is local (1 ∷ 0 ∷ []) 2))
-      (subst (λ xs. HasLocalTypes g E (plain_by (length e.extents) e.form xs e.out) (op_by e local (1 ∷ 0 ∷ []) 2)) ins (local_types (1 ∷ 0 ∷ []) 2))
+      (on_fill KeepsWidth ins own (plain_keeps e is))
+      (on_fill (λ nest. IsOperationOf nest (whole_op e)) ins own whole_operation)
+      (on_fill (λ nest. IsOperationOf nest (op_by e local (1 ∷ 0 ∷ []) 2)) ins own local_is)
+      (on_fill (λ nest. HasLocalTypes g E nest (op_by e local (1 ∷ 0 ∷ []) 2)) ins own (local_types (1 ∷ 0 ∷ []) 2))
       refl refl (whole_swapped filling one) in
       let splits : operand_splits (structured_meaning e) g o ≡ split_by g E e.out ∷ scalar_split g e.out.width ∷ [] =
-      ap₂ (λ xs ys. map (split_of g (structured_nest e) o) (map (value_by e.extents) (xs ++ e.out ∷ [])) ++ map (iface_scalar_split g) (map (λ (x : Operand). x.width) ys))
-      (ap (λ (b : Bool). if b then [] else e.ins) filling) (ap (λ (b : Bool). if b then e.ins else []) filling ∙ ins)
+      ap₂ (λ xs ws. map (split_of g (structured_nest e) o) (map (value_by e.extents) (xs ++ e.out ∷ [])) ++ map (iface_scalar_split g) ws)
+      (ap (λ (b : Bool). if b then [] else e.ins) filling)
+      (ap (λ (b : Bool). if b then map (λ (x : Operand). x.width) e.ins else e.captured) filling ∙ ap (map (λ (x : Operand). x.width)) ins)
       ∙ ap (λ s. s ∷ scalar_split g e.out.width ∷ []) (split_is g (structured_nest e) o e.extents e.out) in
-      subst Cuts (sym (instructions_by None none ∙ ap₂ (λ ns n. op_by e local ns n ∷ []) (ap (λ (b : Bool). if b then 1 ∷ 0 ∷ [] else range_with_len 0 (length e.ins + 1)) filling) (ap (λ n. n + 1) one)))
+      subst Cuts (sym (instructions_by None none ∙ ap₂ (λ ns n. op_by e local ns n ∷ []) (ap (λ (b : Bool). if b then 1 ∷ 0 ∷ [] else range_with_len 0 (operands_in e)) filling) two))
       (subst (λ ss. IsLocalPart (steps_on g.extents) tensor_splitting (whole_of (whole_op e)) ss (result_split (structured_meaning e) g o) (op_by e local (1 ∷ 0 ∷ []) 2 ∷ [])) (sym splits)
       (subst (λ r. IsLocalPart (steps_on g.extents) tensor_splitting (whole_of (whole_op e)) (split_by g E e.out ∷ scalar_split g e.out.width ∷ []) r (op_by e local (1 ∷ 0 ∷ []) 2 ∷ [])) (sym split_of_result) part))
+    where
+      on_fill : (P : PlainNest → Type 0) → e.ins ≡ record { dims = []; width = e.out.width } ∷ [] → e.captured ≡ [] → P (plain_of e) → P (plain_by (length e.extents) e.form (record { dims = []; width = e.out.width } ∷ []) e.out [])
+      on_fill P ins own h = subst (λ ws. P (plain_by (length e.extents) e.form (record { dims = []; width = e.out.width } ∷ []) e.out ws)) own (subst (λ xs. P (plain_by (length e.extents) e.form xs e.out e.captured)) ins h)
 
   pub part_cuts : Cuts (instructions (structured_meaning e) g o)
   part_cuts =

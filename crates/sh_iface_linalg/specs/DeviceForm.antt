@@ -1,11 +1,12 @@
 -- The local part of a structured operation keeps the rules of device form.
-use Rattle.std.proofs.Common.{◌≡◌, ◌≢◌, ℕ, zero, suc, ◌+◌, ◌-◌, ◌<◌, ◌≤◌, Bool, true, false, List, [], ◌∷◌, ◌++◌, map, length, Option, Some, None, refl, ap, ap₂, sym, ◌∙◌, arith, subst, inl, inr}
+use Rattle.std.proofs.Common.{◌≡◌, ◌≢◌, ℕ, zero, suc, ◌+◌, ◌-◌, ◌<◌, ◌≤◌, Bool, true, false, List, [], ◌∷◌, ◌++◌, map, take, length, Option, Some, None, refl, ap, ap₂, sym, ◌∙◌, arith, subst, inl, inr}
 use Rattle.std.proofs.lemmas.Bool.{cases_Bool}
 use Rattle.std.proofs.lemmas.Bool.Decides.{nat_tests}
-use Rattle.std.proofs.lemmas.List.{append-nil, length-append, length-map}
+use Rattle.std.proofs.lemmas.List.{length-append, length-map}
 use Rattle.std.proofs.lemmas.Option.{same_Some}
 use Rattle.std.specs.List.{AllByRecursion, list_all, range_with_len}
-use Rattle.std.specs.Prelude.{get_or, nat_eq, nat_le, if◌then◌else◌}
+use Rattle.std.specs.Prelude.{get_or, nat_eq, nat_le, slice_get, if◌then◌else◌}
+use Rattle.sh_base.specs.declared.numbers.Width.{Width}
 use Rattle.sh_base.specs.declared.operations.Kind.{Kind}
 use Rattle.sh_base.specs.declared.rules.Rule.{Rule}
 use Rattle.sh_base.specs.Shape.{cell_count, max_cells, max_rank}
@@ -31,12 +32,14 @@ use Rattle.sh_iface.specs.Meaning.{instructions, local_type, operand_count, redu
 use Rattle.sh_iface.specs.Splits.{OptionValue, split_of}
 use Rattle.sh_iface.specs.Valid.{IsValid}
 use Rattle.sh_iface.proofs.Implied.{unsplit_valid}
-use Rattle.sh_iface_linalg.specs.Structured.{Form, IsStructured, Structured, combining_kind, fill_op, first_rank, input_type, input_types, is_fill, kind_at, kind_of_form, local_loop, neutral_op, op_by, own_type, part_by, part_names, structured_meaning, structured_nest, structured_part, tensor_ins, value_by}
-use Rattle.sh_iface_linalg.specs.Structured.{fill, matmul, batch_matmul, matvec, vecmat, dot, transpose, broadcast}
+use Rattle.sh_iface_linalg.specs.Structured.{Form, IsStructured, Structured, combining_kind, fill_op, first_rank, input_type, input_types, is_fill, kind_at, kind_of_form, local_loop, neutral_op, op_by, operands_in, own_type, part_by, part_names, reducing_names, renumbered_form, structured_meaning, structured_nest, structured_part, tensor_ins, value_by}
+use Rattle.sh_iface_linalg.specs.Structured.{fill, matmul, batch_matmul, matvec, vecmat, dot, transpose, broadcast, reduce, generic}
 use Rattle.sh_iface_linalg.specs.Nests.{plain_of}
-use Rattle.sh_iface_linalg.specs.Loops.{nest_in_order}
+use Rattle.sh_iface_linalg.specs.Loops.{length-range, nest_in_order}
 use Rattle.sh_iface_linalg.specs.Divisions.{D, are_split, dims_local, ins_admitted, out_admitted, scalar_admitted, type_is}
-use Rattle.sh_iface_linalg.specs.Cuts.{axes_are, counted_tensors, form_kind, instructions_by, join_op, loops_apart, no_kind, no_scalars, part_cuts, reduce_op, scalar_input, type_of_result}
+use Rattle.sh_iface_linalg.specs.Cuts.{all_counted, axes_are, counted_tensors, form_kind, instructions_by, join_op, loops_apart, no_captured, no_kind, own_scalars, part_cuts, reduce_op, scalar_input, type_of_result}
+use Rattle.sh_iface_linalg.specs.Bodies.{scalar_types}
+use Rattle.sh_iface_linalg.specs.BodyRules.{IsConstantOf}
 use Rattle.sh_iface_linalg.specs.Rules.{AreValuesOf, IsValueOf, itself, joined}
 use Rattle.sh_iface_linalg.specs.Kept.{filling, filling_stands, op_keeps, stands}
 use Rattle.sh_iface_linalg.specs.Combining.{join_keeps, neutral_keeps, reduce_keeps}
@@ -100,6 +103,36 @@ local_class vecmat ts t operands name place = refl
 local_class dot ts t operands name place = refl
 local_class (transpose p) ts t operands name place = refl
 local_class (broadcast d) ts t operands name place = refl
+local_class (reduce n d r) ts t operands name place = refl
+local_class (generic maps its r) ts t operands name place = refl
+
+-- ---- the operands that are written, and those behind them
+
+range_taken : (b k n : ℕ) → k ≤ n → take k (range_with_len b n) ≡ range_with_len b k
+range_taken b zero n le = refl
+range_taken b (suc k) zero le = absurd (omega (arith, le))
+range_taken b (suc k) (suc n) le = ap (λ ns. b ∷ ns) (range_taken (b + 1) k n (omega (arith, le)))
+
+front_taken : (xs ys : List ℕ) (x n : ℕ) → length xs ≡ n → take (n + 1) (xs ++ x ∷ ys) ≡ xs ++ x ∷ []
+front_taken xs ys x n long = let z : n + 1 ≡ suc n = omega arith in ap (λ m. take m (xs ++ x ∷ ys)) z ∙ go xs n long
+  where
+    go : (xs : List ℕ) (n : ℕ) → length xs ≡ n → take (suc n) (xs ++ x ∷ ys) ≡ xs ++ x ∷ []
+    go [] zero e = refl
+    go [] (suc n) e = absurd (omega (arith, e))
+    go (y ∷ xs) zero e = absurd (omega (arith, e))
+    go (y ∷ xs) (suc n) e = ap (λ zs. y ∷ zs) (go xs n (omega (arith, e)))
+
+got_behind : {X : Type 0} (xs ys : List X) (i : ℕ) (d : X) → get_or (xs ++ ys) (length xs + i) d ≡ get_or ys i d
+got_behind [] ys i d = let z : 0 + i ≡ i = omega arith in ap (λ k. get_or ys k d) z
+got_behind (x ∷ xs) ys i d = let z : suc (length xs) + i ≡ suc (length xs + i) = omega arith in ap (λ k. get_or (x ∷ xs ++ ys) k d) z ∙ got_behind xs ys i d
+
+got_scalar : (ws : List Width) (i : ℕ) (v : Width) → slice_get ws i ≡ Some v → (get_or (scalar_types ws) i Nothing ≡ Scalar v) × (i < length ws)
+got_scalar [] i v e = absurd (cc)
+got_scalar (w ∷ ws) zero v e = (ap (λ u. Scalar u) (same_Some w v e), omega arith)
+got_scalar (w ∷ ws) (suc i) v e = let rest = got_scalar ws i v e in (rest.0, let lt = rest.1 in omega (arith, lt))
+
+constant_still : {values : List Value} {t : ValueType} {name : ℕ} → IsConstantOf values t name → (v : Value) → v.name ≢ name → IsConstantOf (v ∷ values) t name
+constant_still {values = values} {name = name} h v other = record { found = h.found; is = other_named values v name other ∙ h.is; typed = h.typed; constant = h.constant }
 
 module _ (e : Structured) (is : IsStructured e) (g : GridValue) (o : OptionValue) (valid : IsValid (structured_nest e) g o) where
   abbrev local : ℕ → Dim
@@ -151,13 +184,18 @@ module _ (e : Structured) (is : IsStructured e) (g : GridValue) (o : OptionValue
   mapped_both [] = refl
   mapped_both (x ∷ xs) = ap (λ ts. tensor_of (map local x.dims) x.width ∷ ts) (mapped_both xs)
 
-  tensor_types : is_fill e.form ≡ false → operand_types (structured_meaning e) g o ≡ ins ++ own ∷ []
+  -- the types of the operands: the tensors, then the scalars that its region uses
+  abbrev part_types : List ValueType
+  part_types = (ins ++ own ∷ []) ++ scalar_types e.captured
+
+  tensor_types : is_fill e.form ≡ false → operand_types (structured_meaning e) g o ≡ part_types
   unfolding structured_nest
   tensor_types tensors =
-      ap₂ (λ xs ys. map (λ value. local_type (split_of g (structured_nest e) o value)) (map (value_by e.extents) (xs ++ e.out ∷ [])) ++ map (λ w. Scalar w) (map (λ (x : Operand). x.width) ys))
-      (ap (λ (b : Bool). if b then [] else e.ins) tensors) (no_scalars e is g o valid tensors)
-      ∙ append-nil _ ∙ types_of (e.ins ++ e.out ∷ []) ∙ mapped_both e.ins
-      ∙ ap (λ (b : Bool). map (λ (x : Operand). if b then Scalar x.width else tensor_of (map local x.dims) x.width) e.ins ++ own ∷ []) (sym tensors)
+      ap₂ (λ xs ws. map (λ value. local_type (split_of g (structured_nest e) o value)) (map (value_by e.extents) (xs ++ e.out ∷ [])) ++ map (λ w. Scalar w) ws)
+      (ap (λ (b : Bool). if b then [] else e.ins) tensors) (own_scalars e is g o valid tensors)
+      ∙ ap (λ ts. ts ++ scalar_types e.captured)
+      (types_of (e.ins ++ e.out ∷ []) ∙ mapped_both e.ins
+      ∙ ap (λ (b : Bool). map (λ (x : Operand). if b then Scalar x.width else tensor_of (map local x.dims) x.width) e.ins ++ own ∷ []) (sym tensors))
 
   one_in : is_fill e.form ≡ true → e.ins ≡ record { dims = []; width = e.out.width } ∷ []
   one_in filling_it = scalar_input e.form e.ins e.out filling_it (first_rank e.ins) (length e.out.dims) is.inputs is.widths
@@ -165,8 +203,8 @@ module _ (e : Structured) (is : IsStructured e) (g : GridValue) (o : OptionValue
   filled_types : is_fill e.form ≡ true → operand_types (structured_meaning e) g o ≡ own ∷ Scalar e.out.width ∷ []
   unfolding structured_nest
   filled_types filling_it =
-      ap₂ (λ xs ys. map (λ value. local_type (split_of g (structured_nest e) o value)) (map (value_by e.extents) (xs ++ e.out ∷ [])) ++ map (λ w. Scalar w) (map (λ (x : Operand). x.width) ys))
-      (ap (λ (b : Bool). if b then [] else e.ins) filling_it) (ap (λ (b : Bool). if b then e.ins else []) filling_it ∙ one_in filling_it)
+      ap₂ (λ xs ws. map (λ value. local_type (split_of g (structured_nest e) o value)) (map (value_by e.extents) (xs ++ e.out ∷ [])) ++ map (λ w. Scalar w) ws)
+      (ap (λ (b : Bool). if b then [] else e.ins) filling_it) (ap (λ (b : Bool). if b then map (λ (x : Operand). x.width) e.ins else e.captured) filling_it ∙ ap (map (λ (x : Operand). x.width)) (one_in filling_it))
       ∙ ap (λ t. t ∷ Scalar e.out.width ∷ []) (type_is g (structured_nest e) o e.extents e.out)
 
   input_is : is_fill e.form ≡ true → ins ≡ Scalar e.out.width ∷ []
@@ -176,46 +214,86 @@ module _ (e : Structured) (is : IsStructured e) (g : GridValue) (o : OptionValue
   ins_counted : length ins ≡ length e.ins
   ins_counted = length-map e.ins (λ (x : Operand). input_type e.form (map local x.dims) x.width)
 
-  all_counted : length (ins ++ own ∷ []) ≡ length e.ins + 1
-  all_counted = length-append ins (own ∷ []) ∙ ap (λ n. n + 1) ins_counted
+  tensors_counted : length (ins ++ own ∷ []) ≡ length e.ins + 1
+  tensors_counted = length-append ins (own ∷ []) ∙ ap (λ n. n + 1) ins_counted
+
+  types_counted : length part_types ≡ operands_in e
+  types_counted =
+      let a = length-append (ins ++ own ∷ []) (scalar_types e.captured) in
+      let b = tensors_counted in
+      let c = length-map e.captured (λ v. Scalar v) in
+      omega (arith, a, b, c)
 
   value_here : {types : List ValueType} {scope : Scope} (p : IsPartScope g types scope) (i : ℕ) → i < length types → IsValueOf scope (get_or types i Nothing) i
   value_here {types = types} p i lt = record { found = record { name = i; value_type = get_or types i Nothing; is_constant = is_scalar (get_or types i Nothing) }; is = p.operands i lt; typed = refl }
 
+  -- a tensor among the operands
+  tensor_here : {scope : Scope} (p : IsPartScope g part_types scope) (i : ℕ) → i < length (ins ++ own ∷ []) → IsValueOf scope (get_or (ins ++ own ∷ []) i Nothing) i
+  tensor_here {scope = scope} p i lt =
+      let a = types_counted in
+      let b = tensors_counted in
+      subst (λ t. IsValueOf scope t i) (got_front (ins ++ own ∷ []) (scalar_types e.captured) i Nothing lt) (value_here p i (omega (arith, a, b, lt)))
+
+  -- and a scalar
+  scalar_here : {scope : Scope} (p : IsPartScope g part_types scope) (i : ℕ) (v : Width) → slice_get e.captured i ≡ Some v → IsConstantOf scope.values (Scalar v) (length e.ins + 1 + i)
+  scalar_here p i v at =
+      let own_at = got_scalar e.captured i v at in
+      let a = types_counted in
+      let b = tensors_counted in
+      let lt = own_at.1 in
+      let place : length (ins ++ own ∷ []) + i ≡ length e.ins + 1 + i = omega (arith, b) in
+      let type : get_or part_types (length e.ins + 1 + i) Nothing ≡ Scalar v = ap (λ k. get_or part_types k Nothing) (sym place) ∙ got_behind (ins ++ own ∷ []) (scalar_types e.captured) i Nothing ∙ own_at.0 in
+      record {
+        found = record { name = length e.ins + 1 + i; value_type = get_or part_types (length e.ins + 1 + i) Nothing; is_constant = is_scalar (get_or part_types (length e.ins + 1 + i) Nothing) };
+        is = p.operands (length e.ins + 1 + i) (omega (arith, a, lt));
+        typed = type;
+        constant = ap is_scalar type;
+      }
+
   -- ---- alone
 
   module _ (rule : Rule) (scope : Scope) where
-    tensors_keep : IsPartScope g (ins ++ own ∷ []) scope → KeepsOps rule scope (op_by e local (range_with_len 0 (length e.ins + 1)) (length e.ins + 1) ∷ [])
+    tensors_keep : IsPartScope g part_types scope → KeepsOps rule scope (op_by e local (range_with_len 0 (operands_in e)) (operands_in e) ∷ [])
     tensors_keep p =
-        let counted = all_counted in
-        keeps_next rule scope (op_by e local (range_with_len 0 (length e.ins + 1)) (length e.ins + 1)) []
-        (op_keeps e local (range_with_len 0 (length e.ins + 1)) (length e.ins + 1) scope (stands e is local) (record {
+        let counted = types_counted in
+        keeps_next rule scope (op_by e local (range_with_len 0 (operands_in e)) (operands_in e)) []
+        (op_keeps e local (range_with_len 0 (operands_in e)) (operands_in e) scope (stands e is local) (record {
           grid = g.name;
           device = p.device;
-          typed = subst (λ n. AreValuesOf scope (ins ++ own ∷ []) (range_with_len 0 n)) counted (values_from scope 0 (ins ++ own ∷ []) (λ i lt. let z : i ≡ 0 + i = omega arith in subst (IsValueOf scope (get_or (ins ++ own ∷ []) i Nothing)) z (value_here p i lt)));
-          fresh = p.fresh (length e.ins + 1) (omega (arith, counted));
+          typed =
+              subst (AreValuesOf scope (ins ++ own ∷ [])) (sym (range_taken 0 (length e.ins + 1) (operands_in e) (omega arith)))
+              (subst (λ n. AreValuesOf scope (ins ++ own ∷ []) (range_with_len 0 n)) tensors_counted (values_from scope 0 (ins ++ own ∷ []) (λ i lt. let z : i ≡ 0 + i = omega arith in subst (IsValueOf scope (get_or (ins ++ own ∷ []) i Nothing)) z (tensor_here p i lt))));
+          scalars = scalar_here p;
+          later = omega arith;
+          fresh = p.fresh (operands_in e) (omega (arith, counted));
           few_dims = few_of_dims;
           few_cells = few_of_cells;
         }) rule) refl
 
-    fill_keeps : is_fill e.form ≡ true → IsPartScope g (own ∷ Scalar e.out.width ∷ []) scope → KeepsOps rule scope (op_by e local (1 ∷ 0 ∷ []) (length e.ins + 1) ∷ [])
+    fill_keeps : is_fill e.form ≡ true → IsPartScope g (own ∷ Scalar e.out.width ∷ []) scope → KeepsOps rule scope (op_by e local (1 ∷ 0 ∷ []) (operands_in e) ∷ [])
     fill_keeps filling_it p =
         let one : length e.ins ≡ 1 = ap length (one_in filling_it) in
-        keeps_next rule scope (op_by e local (1 ∷ 0 ∷ []) (length e.ins + 1)) []
-        (op_keeps e local (1 ∷ 0 ∷ []) (length e.ins + 1) scope (stands e is local) (record {
+        let own_none : e.captured ≡ [] = no_captured e.form e.captured (map (λ (x : Operand). x.width) e.ins) e.out.width filling_it is.region in
+        let none : length e.captured ≡ 0 = ap length own_none in
+        keeps_next rule scope (op_by e local (1 ∷ 0 ∷ []) (operands_in e)) []
+        (op_keeps e local (1 ∷ 0 ∷ []) (operands_in e) scope (stands e is local) (record {
           grid = g.name;
           device = p.device;
-          typed = subst (λ ts. AreValuesOf scope (ts ++ own ∷ []) (1 ∷ 0 ∷ [])) (sym (input_is filling_it)) (value_here p 1 (omega arith), (value_here p 0 (omega arith), tt));
-          fresh = p.fresh (length e.ins + 1) (omega (arith, one));
+          typed =
+              subst (AreValuesOf scope (ins ++ own ∷ [])) (sym (ap (λ n. take (n + 1) (1 ∷ 0 ∷ [])) one))
+              (subst (λ ts. AreValuesOf scope (ts ++ own ∷ []) (1 ∷ 0 ∷ [])) (sym (input_is filling_it)) (value_here p 1 (omega arith), (value_here p 0 (omega arith), tt)));
+          scalars = λ i v at. let f : None ≡ Some v = sym (ap (λ ws. slice_get ws i) own_none) ∙ at in absurd (cc);
+          later = omega arith;
+          fresh = p.fresh (operands_in e) (omega (arith, one));
           few_dims = few_of_dims;
           few_cells = few_of_cells;
         }) rule) refl
 
     -- ---- with what combines
 
-    module _ (k : Kind) (has : kind_of_form e.form ≡ Some k) (p : IsPartScope g (ins ++ own ∷ []) scope) where
+    module _ (k : Kind) (has : kind_of_form e.form ≡ Some k) (p : IsPartScope g part_types scope) where
       abbrev N : ℕ
-      N = length e.ins + 1
+      N = operands_in e
 
       abbrev first_op : Op
       first_op = neutral_op e local k N
@@ -224,7 +302,7 @@ module _ (e : Structured) (is : IsStructured e) (g : GridValue) (o : OptionValue
       second_op = fill_op e local (length e.ins) N
 
       abbrev third_op : Op
-      third_op = op_by e local (range_with_len 0 (length e.ins) ++ suc N ∷ []) (suc (suc N))
+      third_op = op_by e local (reducing_names e (suc N)) (suc (suc N))
 
       abbrev axes : List ℕ
       axes = nest.reduction_axes (D e is g o valid) (plain_of e)
@@ -248,7 +326,7 @@ module _ (e : Structured) (is : IsStructured e) (g : GridValue) (o : OptionValue
       scope4 = behind scope3 (value_of fourth_op (suc (suc (suc N))))
 
       new_in : (name : ℕ) → N ≤ name → value_named scope.values name ≡ None
-      new_in name le = let counted = all_counted in p.fresh name (omega (arith, counted, le))
+      new_in name le = let counted = types_counted in p.fresh name (omega (arith, counted, le))
 
       new1 : (name : ℕ) → suc N ≤ name → value_named scope1.values name ≡ None
       new1 name le = other_named scope.values (value_of first_op N) name (λ same. absurd (omega (arith, same, le))) ∙ new_in name (omega (arith, le))
@@ -264,9 +342,9 @@ module _ (e : Structured) (is : IsStructured e) (g : GridValue) (o : OptionValue
 
       outs_here : IsValueOf scope own (length e.ins)
       outs_here =
-          let counted = all_counted in
+          let counted = tensors_counted in
           let n = ins_counted in
-          subst (λ t. IsValueOf scope t (length e.ins)) (ap (λ i. get_or (ins ++ own ∷ []) i Nothing) (sym n) ∙ got_last ins own Nothing) (value_here p (length e.ins) (omega (arith, counted)))
+          subst (λ t. IsValueOf scope t (length e.ins)) (ap (λ i. get_or (ins ++ own ∷ []) i Nothing) (sym n) ∙ got_last ins own Nothing) (tensor_here p (length e.ins) (omega (arith, counted)))
 
       outs1 : IsValueOf scope1 own (length e.ins)
       outs1 = still outs_here (value_of first_op N) (λ same. absurd (omega (arith, same)))
@@ -282,12 +360,17 @@ module _ (e : Structured) (is : IsStructured e) (g : GridValue) (o : OptionValue
 
       input2 : (i : ℕ) → i < length ins → IsValueOf scope2 (get_or ins i Nothing) (0 + i)
       input2 i lt =
-          let counted = all_counted in
+          let counted = tensors_counted in
           let n = ins_counted in
           let z : i ≡ 0 + i = omega arith in
-          let here : IsValueOf scope (get_or ins i Nothing) i = subst (λ t. IsValueOf scope t i) (got_front ins (own ∷ []) i Nothing lt) (value_here p i (omega (arith, counted, n, lt))) in
+          let here : IsValueOf scope (get_or ins i Nothing) i = subst (λ t. IsValueOf scope t i) (got_front ins (own ∷ []) i Nothing lt) (tensor_here p i (omega (arith, counted, n, lt))) in
           subst (IsValueOf scope2 (get_or ins i Nothing)) z
           (still (still here (value_of first_op N) (λ same. absurd (omega (arith, same, n, lt)))) (value_of second_op (suc N)) (λ same. absurd (omega (arith, same, n, lt))))
+
+      scalar2 : (i : ℕ) (v : Width) → slice_get e.captured i ≡ Some v → IsConstantOf scope2.values (Scalar v) (length e.ins + 1 + i)
+      scalar2 i v at =
+          let lt = (got_scalar e.captured i v at).1 in
+          constant_still (constant_still (scalar_here p i v at) (value_of first_op N) (λ same. absurd (omega (arith, same, lt)))) (value_of second_op (suc N)) (λ same. absurd (omega (arith, same, lt)))
 
       second_keeps : KeepsOps rule scope1 (second_op ∷ third_op ∷ fourth_op ∷ fifth_op ∷ []) → KeepsOps rule scope (first_op ∷ second_op ∷ third_op ∷ fourth_op ∷ fifth_op ∷ [])
       second_keeps rest = keeps_next rule scope first_op (second_op ∷ third_op ∷ fourth_op ∷ fifth_op ∷ []) (neutral_keeps e local k N scope g.name p.device (new_in N (omega arith)) rule) rest
@@ -299,6 +382,8 @@ module _ (e : Structured) (is : IsStructured e) (g : GridValue) (o : OptionValue
             grid = g.name;
             device = p.device;
             typed = (newest scope (value_of first_op N), (outs1, tt));
+            scalars = λ i v at. absurd (cc);
+            later = omega arith;
             fresh = new1 (suc N) (omega arith);
             few_dims = (all_dims true (record { dims = []; width = e.out.width } ∷ []) (no_dims, tt), few_of_dims.1);
             few_cells = (all_cells true (record { dims = []; width = e.out.width } ∷ []) (no_dims, tt), few_of_cells.1);
@@ -310,10 +395,12 @@ module _ (e : Structured) (is : IsStructured e) (g : GridValue) (o : OptionValue
       fourth_keeps : KeepsOps rule scope3 (fourth_op ∷ fifth_op ∷ []) → KeepsOps rule scope2 (third_op ∷ fourth_op ∷ fifth_op ∷ [])
       fourth_keeps rest =
           keeps_next rule scope2 third_op (fourth_op ∷ fifth_op ∷ [])
-          (op_keeps e local (range_with_len 0 (length e.ins) ++ suc N ∷ []) (suc (suc N)) scope2 (stands e is local) (record {
+          (op_keeps e local (reducing_names e (suc N)) (suc (suc N)) scope2 (stands e is local) (record {
             grid = g.name;
             device = p.device;
-            typed = values_joined scope2 ins (range_with_len 0 (length e.ins)) own (suc N) (subst (λ n. AreValuesOf scope2 ins (range_with_len 0 n)) ins_counted (values_from scope2 0 ins input2)) (newest scope1 (value_of second_op (suc N)));
+            typed = subst (AreValuesOf scope2 (ins ++ own ∷ [])) (sym (front_taken (range_with_len 0 (length e.ins)) (range_with_len (length e.ins + 1) (length e.captured)) (suc N) (length e.ins) (length-range 0 (length e.ins)))) (values_joined scope2 ins (range_with_len 0 (length e.ins)) own (suc N) (subst (λ n. AreValuesOf scope2 ins (range_with_len 0 n)) ins_counted (values_from scope2 0 ins input2)) (newest scope1 (value_of second_op (suc N))));
+            scalars = scalar2;
+            later = omega arith;
             fresh = new2 (suc (suc N)) (omega arith);
             few_dims = few_of_dims;
             few_cells = few_of_cells;
@@ -345,10 +432,10 @@ module _ (e : Structured) (is : IsStructured e) (g : GridValue) (o : OptionValue
 
     tensors_form : (k : Option Kind) → combining_kind e o ≡ k → is_fill e.form ≡ false → IsPartScope g (operand_types (structured_meaning e) g o) scope → Keeps (instructions (structured_meaning e) g o)
     tensors_form None none tensors p =
-        subst Keeps (sym (instructions_by e is g o valid None none ∙ ap (λ ns. op_by e local ns (length e.ins + 1) ∷ []) (ap (λ (b : Bool). if b then 1 ∷ 0 ∷ [] else range_with_len 0 (length e.ins + 1)) tensors)))
+        subst Keeps (sym (instructions_by e is g o valid None none ∙ ap (λ ns. op_by e local ns (operands_in e) ∷ []) (ap (λ (b : Bool). if b then 1 ∷ 0 ∷ [] else range_with_len 0 (operands_in e)) tensors)))
         (tensors_keep (subst (λ ts. IsPartScope g ts scope) (tensor_types tensors) p))
     tensors_form (Some k) has tensors p =
-        let count : operand_count (structured_meaning e) ≡ length e.ins + 1 = ap₂ (λ a b. a + b) (counted_tensors e is g o valid tensors) (ap (λ (xs : List Operand). length (map (λ (x : Operand). x.width) xs)) (no_scalars e is g o valid tensors)) ∙ (let z : length e.ins + 1 + 0 ≡ length e.ins + 1 = omega arith in z) in
+        let count = all_counted e is g o valid tensors in
         let tensors_count = counted_tensors e is g o valid tensors in
         let form = form_kind e is g o valid k has in
         subst Keeps (sym (instructions_by e is g o valid (Some k) has))
@@ -358,7 +445,7 @@ module _ (e : Structured) (is : IsStructured e) (g : GridValue) (o : OptionValue
     fill_form : is_fill e.form ≡ true → IsPartScope g (operand_types (structured_meaning e) g o) scope → Keeps (instructions (structured_meaning e) g o)
     unfolding combining_kind
     fill_form filling_it p =
-        subst Keeps (sym (instructions_by e is g o valid None (no_kind e.form _ filling_it) ∙ ap (λ (b : Bool). op_by e local (if b then 1 ∷ 0 ∷ [] else range_with_len 0 (length e.ins + 1)) (length e.ins + 1) ∷ []) filling_it))
+        subst Keeps (sym (instructions_by e is g o valid None (no_kind e.form _ filling_it) ∙ ap (λ (b : Bool). op_by e local (if b then 1 ∷ 0 ∷ [] else range_with_len 0 (operands_in e)) (operands_in e) ∷ []) filling_it))
         (fill_keeps filling_it (subst (λ ts. IsPartScope g ts scope) (filled_types filling_it) p))
 
     keeps_all : IsPartScope g (operand_types (structured_meaning e) g o) scope → Keeps (instructions (structured_meaning e) g o)
@@ -371,8 +458,9 @@ module _ (e : Structured) (is : IsStructured e) (g : GridValue) (o : OptionValue
   -- ---- of its own instructions
 
   alone_by : (k : Option Kind) → AllByRecursion (λ op. is_local op ≡ true) (part_by e local k).ops
-  alone_by None = (local_class e.form ins own (part_names e) (Some (length e.ins + 1)) e.place, tt)
-  alone_by (Some k) = (refl, (refl, (local_class e.form ins own (range_with_len 0 (length e.ins) ++ suc (length e.ins + 1) ∷ []) (Some (suc (suc (length e.ins + 1)))) e.place, tt)))
+  alone_by None = (local_class (renumbered_form (length e.ins + 1) (operands_in e + 1) e.form) ins own (part_names e) (Some (operands_in e)) e.place, tt)
+  alone_by (Some k) =
+      (refl, (refl, (local_class (renumbered_form (length e.ins + 1) (suc (suc (operands_in e)) + 1) e.form) ins own (reducing_names e (suc (operands_in e))) (Some (suc (suc (operands_in e)))) e.place, tt)))
 
   ends_by : (k : Option Kind) → EndsWith own (part_by e local k).ops
   ends_by None op at = ap (λ (x : Op). x.result) (sym (same_Some _ op at))

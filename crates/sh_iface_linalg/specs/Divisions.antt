@@ -23,7 +23,7 @@ use Rattle.sh_iface.specs.Table.{follows}
 use Rattle.sh_iface.specs.Valid.{IsValid, MayBeSplit}
 use Rattle.sh_iface.proofs.SplitLists.{split_in, splits_counted}
 use Rattle.sh_iface_linalg.specs.Structured.{Form, IsFollowing, IsStructured, Structured, combining_kind, first_rank, inputs_at, is_fill, kind_of_form, splits_reduction, local_loop, loop_by, loop_division, structured_nest, tensor_ins, value_by}
-use Rattle.sh_iface_linalg.specs.Structured.{fill, matmul, batch_matmul, matvec, vecmat, dot, transpose, broadcast}
+use Rattle.sh_iface_linalg.specs.Structured.{fill, matmul, batch_matmul, matvec, vecmat, dot, transpose, broadcast, reduce, generic}
 use Rattle.sh_iface_linalg.specs.Nests.{named_all, plain_of}
 use Rattle.sh_iface_linalg.specs.Loops.{either_way, map_twice, all_then, all_unmapped, loops_counted, of_named}
 
@@ -188,6 +188,8 @@ module _ (e : Structured) (is : IsStructured e) (g : GridValue) (o : OptionValue
   no_dims (x ∷ ins) f r dot filling h = absurd (cc)
   no_dims (x ∷ ins) f r (transpose p) filling h = absurd (cc)
   no_dims (x ∷ ins) f r (broadcast d) filling h = absurd (cc)
+  no_dims (x ∷ ins) f r (reduce n d b) filling h = absurd (cc)
+  no_dims (x ∷ ins) f r (generic maps its b) filling h = absurd (cc)
 
   last_of : (P : Operand → Type 0) (xs : List Operand) (x : Operand) → AllByRecursion P (xs ++ x ∷ []) → P x
   last_of P [] x h = h.0

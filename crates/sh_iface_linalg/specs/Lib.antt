@@ -1,11 +1,17 @@
+pub mod Bodies
+pub mod BodyCells
+pub mod BodyNames
+pub mod BodyRules
 pub mod Combining
 pub mod Cuts
 pub mod DeviceForm
 pub mod Divisions
 pub mod Ifaces
 pub mod Kept
+pub mod KindOfBody
 pub mod Loops
 pub mod Nests
+pub mod NewNames
 pub mod Propositions
 pub mod Reading
 pub mod Rules

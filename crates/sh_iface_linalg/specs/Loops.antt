@@ -16,7 +16,7 @@ use Rattle.sh_iface.specs.Lawful.{FollowsBelow, IsFollowed, IsNest, IsNestValue}
 use Rattle.sh_iface.specs.LoopNest.{HasNoWindows, IsPlainNest, Loop, NestDim, NestValue}
 use Rattle.sh_iface.specs.Table.{follows}
 use Rattle.sh_iface_linalg.specs.Structured.{Form, IsFollowing, IsStructured, Structured, is_fill, is_named, kind_of_form, loop_by, shape_by, structured_nest, tensor_ins, value_by}
-use Rattle.sh_iface_linalg.specs.Structured.{fill, matmul, batch_matmul, matvec, vecmat, dot, transpose, broadcast}
+use Rattle.sh_iface_linalg.specs.Structured.{fill, matmul, batch_matmul, matvec, vecmat, dot, transpose, broadcast, reduce, generic}
 
 -- ---- lists
 
@@ -181,6 +181,8 @@ has_kind vecmat h = refl
 has_kind dot h = refl
 has_kind (transpose p) h = absurd (cc)
 has_kind (broadcast d) h = absurd (cc)
+has_kind (reduce n d r) h = refl
+has_kind (generic maps its r) h = refl
 
 tensor_named : (e : Structured) → IsStructured e → (l : ℕ) → l < length e.extents → (loop_by e l).splittable ≡ true → is_named (tensor_ins e) e.out l ≡ true
 tensor_named e is l lt may =

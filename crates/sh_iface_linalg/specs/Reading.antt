@@ -8,16 +8,19 @@ use Rattle.sh_ir.specs.declared.operations.OpKind.{OpKind}
 use Rattle.sh_ir.specs.declared.operations.OpKind.TheVariants.{Constant, Binary, Compare, Select, Cast, Empty, ExtractSlice, InsertSlice, CollapseShape, ExpandShape, Fill, Matmul, BatchMatmul, Matvec, Vecmat, Dot, Conv1d, Conv2d, Transpose, Broadcast, Reduce, Generic, Sharding, Shard, AllGather, AllSlice, AllReduce, ReduceScatter, AllToAll, Shift, UpdateHalo, Take, Pad, Join, Call, Return}
 use Rattle.sh_nest_laws.specs.LoopSplits.{Operand}
 use Rattle.sh_ir.specs.declared.types.Dim.{Dim}
-use Rattle.sh_ir.specs.Loops.{places_in, unlisted}
+use Rattle.sh_ir.specs.declared.types.ValueType.{ValueType}
+use Rattle.sh_ir.specs.Loops.{places_in, single, unlisted}
 use Rattle.sh_ir.specs.Numbers.{as_naturals}
-use Rattle.sh_ir.specs.Shapes.{extent_of}
+use Rattle.sh_ir.specs.Shapes.{extent_of, shape_of}
+use Rattle.sh_sem.specs.Nest.{all_followed, extent_of_loop}
+use Rattle.sh_sem.specs.Scalars.{width_of}
 use Rattle.sh_iface.specs.Meaning.{Meaning}
 use Rattle.sh_iface_linalg.specs.declared.kinds.LinalgKind.{LinalgKind}
 use Rattle.sh_iface_linalg.specs.declared.kinds.LinalgKind.TheVariants as linalg
 use Rattle.sh_iface_linalg.specs.declared.maps.DimLoops.{DimLoops}
 use Rattle.sh_iface_linalg.specs.declared.maps.DimLoops.TheVariants.{Listed, Places, Unlisted}
 use Rattle.sh_iface_linalg.specs.Structured.{Form, Structured, inputs_at, kind_of_form, structured_meaning}
-use Rattle.sh_iface_linalg.specs.Structured.{fill, matmul, batch_matmul, matvec, vecmat, dot, transpose, broadcast}
+use Rattle.sh_iface_linalg.specs.Structured.{fill, matmul, batch_matmul, matvec, vecmat, dot, transpose, broadcast, reduce, generic}
 
 -- which one a kind is, if it is one
 abbrev pub form_of : OpKind → Option Form
@@ -69,6 +72,27 @@ kind_with dot x = Dot x
 kind_with (transpose permutation) x =
     Transpose (record { ins_outs = x; permutation = permutation })
 kind_with (broadcast dimensions) x = Broadcast (record { ins_outs = x; dimensions = dimensions })
+kind_with (reduce first dimensions r) x =
+    Reduce (record { ins_outs = x; dimensions = dimensions; body = r.body })
+kind_with (generic maps iterators r) x = Generic (record {
+  ins_outs = x;
+  indexing_maps = maps;
+  iterator_types = iterators;
+  body = r.body;
+})
+
+-- it has a name of its own, and no region
+abbrev pub IsNamed : Form → Type 0
+IsNamed fill = Unit {0}
+IsNamed matmul = Unit {0}
+IsNamed batch_matmul = Unit {0}
+IsNamed matvec = Unit {0}
+IsNamed vecmat = Unit {0}
+IsNamed dot = Unit {0}
+IsNamed (transpose permutation) = Unit {0}
+IsNamed (broadcast dimensions) = Unit {0}
+IsNamed (reduce first dimensions r) = ⊥
+IsNamed (generic maps iterators r) = ⊥
 
 -- ---- as the code holds them
 
@@ -110,6 +134,7 @@ structured_by form shape reduced first second width place = record {
   extents = shape ++ reduced_extents form reduced;
   ins = inputs_by (inputs_at form (length shape) (length shape)) (first ∷ second ∷ []);
   out = record { dims = range_with_len 0 (length shape); width = width };
+  captured = [];
   place = place;
 }
 
@@ -121,3 +146,22 @@ structured_of kind dims reduced first second width place =
 abbrev pub meaning_by : LinalgKind → List Dim → ℕ → Width → Width → Width → Place → Meaning
 meaning_by kind dims reduced first second width place =
     structured_meaning (structured_of kind dims reduced first second width place)
+
+-- ---- with a region
+
+-- the extent of a loop: that of the first dimension which follows it
+abbrev pub extent_by : List (List ℕ) → List ℕ → List (List ℕ) → ℕ → ℕ
+extent_by inputs output shapes l =
+    extent_of_loop (all_followed (map single inputs ++ single output ∷ []) shapes) l
+
+-- of loops that dimensions of these types follow so
+abbrev pub regional_by : Form → ℕ → List (List ℕ) → List ℕ → List ValueType → ValueType → List Width
+    → Place → Structured
+regional_by form loops inputs output ins out scalars place = record {
+  form = form;
+  extents = map (extent_by inputs output (map shape_of (ins ++ out ∷ []))) (range_with_len 0 loops);
+  ins = inputs_by inputs (map width_of ins);
+  out = record { dims = output; width = width_of out };
+  captured = scalars;
+  place = place;
+}

@@ -1,6 +1,8 @@
--- Structured operations without a region: fills, products and copies of cells, as plain data.
-use Rattle.std.specs.Prelude.{◌≡◌, ℕ, suc, ◌+◌, ◌<◌, ◌≤◌, ◌&&◌, ◌||◌, Bool, true, false, ℤ, List, [], ◌∷◌, ◌++◌, map, length, get_or, nat_le, nat_lt, Option, Some, None, is_some, if◌then◌else◌}
+-- Structured operations but convolutions, as plain data: fills, products, copies of cells, reductions
+-- and generics.
+use Rattle.std.specs.Prelude.{◌≡◌, ℕ, suc, ◌+◌, ◌-◌, ◌<◌, ◌≤◌, ◌&&◌, ◌||◌, Bool, true, false, ℤ, List, [], ◌∷◌, ◌++◌, map, take, drop, length, get_or, nat_le, nat_lt, Option, Some, None, is_some, if◌then◌else◌}
 use Rattle.std.specs.List.{AllByRecursion, list_all, range_with_len}
+use Rattle.std.specs.Cmp.Lexicographic.{pointwise}
 use Rattle.sh_base.specs.Cells.{bits_of}
 use Rattle.sh_base.specs.declared.numbers.Width.{Width}
 use Rattle.sh_base.specs.declared.operations.Kind.{Kind}
@@ -10,7 +12,9 @@ use Rattle.sh_base.specs.Shape.{max_cells, max_rank}
 use Rattle.sh_grid.specs.Grid.{AreAxesOf, GridValue}
 use Rattle.sh_int.specs.Reduction.{neutral_of}
 use Rattle.sh_ir.specs.declared.arith_ops.Contents.TheVariants.{Held}
+use Rattle.sh_ir.specs.declared.linalg_ops.AffineMap.{AffineMap}
 use Rattle.sh_ir.specs.declared.linalg_ops.InsOuts.{InsOuts}
+use Rattle.sh_ir.specs.declared.linalg_ops.IteratorType.{IteratorType}
 use Rattle.sh_ir.specs.declared.operations.Op.{Op}
 use Rattle.sh_ir.specs.declared.operations.OpKind.{OpKind}
 use Rattle.sh_ir.specs.declared.operations.OpKind.TheVariants as op_kind
@@ -18,12 +22,16 @@ use Rattle.sh_ir.specs.declared.types.Dim.{Dim}
 use Rattle.sh_ir.specs.declared.types.Dim.TheVariants.{Known}
 use Rattle.sh_ir.specs.declared.types.ValueType.{ValueType}
 use Rattle.sh_ir.specs.declared.types.ValueType.TheVariants.{Scalar}
-use Rattle.sh_ir.specs.Loops.{Step, copied, places_in, product_added, unlisted}
+use Rattle.sh_ir.specs.Limits.{max_inputs}
+use Rattle.sh_ir.specs.Loops.{Step, by_region, copied, first_results, places_in, product_added, unlisted}
+use Rattle.sh_ir.specs.Maps.{is_iterator, is_projection, is_used, last_of}
 use Rattle.sh_ir.specs.Numbers.{are_axes_below, as_naturals, is_permutation}
+use Rattle.sh_ir.specs.Regions.{is_among}
 use Rattle.sh_nest_laws.specs.LoopSplits.{Operand, names}
 use Rattle.sh_sharding.specs.LocalTypes.{local_dim}
 use Rattle.sh_sharding.specs.declared.shardings.Dimension.{Dimension}
 use Rattle.sh_sharding.specs.Sharding.{counted_cells}
+use Rattle.sh_iface.specs.BodyKinds.{kind_of_body}
 use Rattle.sh_iface.specs.declared.options.How.TheVariants.{Same}
 use Rattle.sh_iface.specs.declared.parts.LocalPart.{LocalPart}
 use Rattle.sh_iface.specs.Elements.{tensor_of}
@@ -32,6 +40,7 @@ use Rattle.sh_iface.specs.Meaning.{Meaning}
 use Rattle.sh_iface.specs.Splits.{OptionValue, followed}
 use Rattle.sh_iface.specs.Table.{follows}
 use Rattle.sh_iface.specs.Whole.{whole_of}
+use Rattle.sh_iface_linalg.specs.Bodies.{IsRegion, Region, renumbered}
 
 -- which one it is, with the numbers that it writes
 pub data Form : Type 0 where
@@ -43,6 +52,8 @@ pub data Form : Type 0 where
   dot : Form
   transpose : List ℤ → Form
   broadcast : List ℤ → Form
+  reduce : ℕ → List ℤ → Region → Form  -- with the rank of its input
+  generic : List AffineMap → List IteratorType → Region → Form
 
 pub record Structured : Type 0 where
   pub form : Form
@@ -50,7 +61,12 @@ pub record Structured : Type 0 where
   -- the inputs and the output: for each dimension the loop that it follows
   pub ins : List Operand
   pub out : Operand
+  pub captured : List Width  -- of the scalars that its region uses
   pub place : Place
+
+-- how many inputs these maps are for, the output's being the last
+abbrev pub inputs_of_maps : List AffineMap → ℕ
+inputs_of_maps maps = length maps - 1
 
 -- ---- one line a form: by the ranks of the first input and of the output
 
@@ -63,6 +79,8 @@ loops_at vecmat rank = 2
 loops_at dot rank = 1
 loops_at (transpose permutation) rank = rank
 loops_at (broadcast dimensions) rank = rank
+loops_at (reduce first dimensions r) rank = first
+loops_at (generic maps iterators r) rank = length iterators
 
 abbrev pub inputs_at : Form → ℕ → ℕ → List (List ℕ)
 inputs_at fill first rank = [] ∷ []
@@ -73,6 +91,9 @@ inputs_at vecmat first rank = (1 ∷ []) ∷ (1 ∷ 0 ∷ []) ∷ []
 inputs_at dot first rank = (0 ∷ []) ∷ (0 ∷ []) ∷ []
 inputs_at (transpose permutation) first rank = places_in first (as_naturals permutation) ∷ []
 inputs_at (broadcast dimensions) first rank = unlisted rank (as_naturals dimensions) ∷ []
+inputs_at (reduce own dimensions r) first rank = range_with_len 0 first ∷ []
+inputs_at (generic maps iterators r) first rank =
+    map (λ m. m.results) (take (inputs_of_maps maps) maps)
 
 abbrev pub output_at : Form → ℕ → List ℕ
 output_at fill rank = range_with_len 0 rank
@@ -83,6 +104,8 @@ output_at vecmat rank = 0 ∷ []
 output_at dot rank = []
 output_at (transpose permutation) rank = range_with_len 0 rank
 output_at (broadcast dimensions) rank = range_with_len 0 rank
+output_at (reduce first dimensions r) rank = unlisted first (as_naturals dimensions)
+output_at (generic maps iterators r) rank = first_results (drop (inputs_of_maps maps) maps)
 
 abbrev pub step_at : Form → Step
 step_at fill = copied
@@ -93,6 +116,8 @@ step_at vecmat = product_added
 step_at dot = product_added
 step_at (transpose permutation) = copied
 step_at (broadcast dimensions) = copied
+step_at (reduce first dimensions r) = by_region r.body
+step_at (generic maps iterators r) = by_region r.body
 
 -- how the parts of a reduction are combined
 abbrev pub kind_of_form : Form → Option Kind
@@ -104,6 +129,8 @@ kind_of_form vecmat = Some Sum
 kind_of_form dot = Some Sum
 kind_of_form (transpose permutation) = None
 kind_of_form (broadcast dimensions) = None
+kind_of_form (reduce first dimensions r) = kind_of_body r.body
+kind_of_form (generic maps iterators r) = kind_of_body r.body
 
 abbrev pub ins_outs_by : List ValueType → ValueType → InsOuts
 ins_outs_by ins out = record {
@@ -129,6 +156,31 @@ kind_at (broadcast dimensions) ins out = op_kind.Broadcast (record {
   ins_outs = ins_outs_by ins out;
   dimensions = dimensions;
 })
+kind_at (reduce first dimensions r) ins out = op_kind.Reduce (record {
+  ins_outs = ins_outs_by ins out;
+  dimensions = dimensions;
+  body = r.body;
+})
+kind_at (generic maps iterators r) ins out = op_kind.Generic (record {
+  ins_outs = ins_outs_by ins out;
+  indexing_maps = maps;
+  iterator_types = iterators;
+  body = r.body;
+})
+
+-- under other names: its scalars from `first` on, the names of its region from `base` on
+abbrev pub renumbered_form : ℕ → ℕ → Form → Form
+renumbered_form first base fill = fill
+renumbered_form first base matmul = matmul
+renumbered_form first base batch_matmul = batch_matmul
+renumbered_form first base matvec = matvec
+renumbered_form first base vecmat = vecmat
+renumbered_form first base dot = dot
+renumbered_form first base (transpose permutation) = transpose permutation
+renumbered_form first base (broadcast dimensions) = broadcast dimensions
+renumbered_form first base (reduce own dimensions r) = reduce own dimensions (renumbered first base r)
+renumbered_form first base (generic maps iterators r) =
+    generic maps iterators (renumbered first base r)
 
 -- a fill takes a scalar, the others take tensors
 abbrev pub is_fill : Form → Bool
@@ -140,6 +192,8 @@ is_fill vecmat = false
 is_fill dot = false
 is_fill (transpose permutation) = false
 is_fill (broadcast dimensions) = false
+is_fill (reduce first dimensions r) = false
+is_fill (generic maps iterators r) = false
 
 abbrev pub multiplies : Width → List Width → Bool
 multiplies w ins =
@@ -157,6 +211,31 @@ FitsWidths vecmat w ins = multiplies w ins ≡ true
 FitsWidths dot w ins = multiplies w ins ≡ true
 FitsWidths (transpose permutation) w ins = ins ≡ w ∷ []
 FitsWidths (broadcast dimensions) w ins = ins ≡ w ∷ []
+FitsWidths (reduce first dimensions r) w ins = Unit {0}
+FitsWidths (generic maps iterators r) w ins = Unit {0}
+
+-- the region is in order, by the widths of the scalars that it uses
+abbrev pub FitsRegion : Form → List Width → List Width → Width → Type 0
+FitsRegion fill scalars ins w = scalars ≡ []
+FitsRegion matmul scalars ins w = scalars ≡ []
+FitsRegion batch_matmul scalars ins w = scalars ≡ []
+FitsRegion matvec scalars ins w = scalars ≡ []
+FitsRegion vecmat scalars ins w = scalars ≡ []
+FitsRegion dot scalars ins w = scalars ≡ []
+FitsRegion (transpose permutation) scalars ins w = scalars ≡ []
+FitsRegion (broadcast dimensions) scalars ins w = scalars ≡ []
+FitsRegion (reduce first dimensions r) scalars ins w = IsRegion r scalars ins w
+FitsRegion (generic maps iterators r) scalars ins w = IsRegion r scalars ins w
+
+-- The maps name each loop once, each loop is in one of them, and those of the output are parallel.
+pub record AreMaps (maps : List AffineMap) (iterators : List IteratorType) : Type 0 where
+  pub some : length maps ≡ inputs_of_maps maps + 1
+  pub few : inputs_of_maps maps ≤ max_inputs true
+  pub projections : list_all (is_projection (length iterators)) maps ≡ true
+  pub used : list_all (is_used (map (λ m. m.results) maps)) (range_with_len 0 (length iterators)) ≡ true
+  pub iterators_fit : pointwise
+      (λ l iterator. is_iterator (is_among (last_of (map (λ m. m.results) maps)) l) iterator)
+      (range_with_len 0 (length iterators)) iterators ≡ true
 
 -- the numbers that are written are in order, by the ranks
 abbrev pub FitsNumbers : Form → ℕ → ℕ → Type 0
@@ -170,6 +249,10 @@ FitsNumbers (transpose permutation) first rank =
     (is_permutation rank permutation ≡ true) × (first ≡ rank)
 FitsNumbers (broadcast dimensions) first rank =
     (are_axes_below rank dimensions ≡ true) × (first + length dimensions ≡ rank)
+FitsNumbers (reduce own dimensions r) first rank =
+    (are_axes_below own dimensions ≡ true) × (own ≡ first)
+    × (rank + length dimensions ≡ first)
+FitsNumbers (generic maps iterators r) first rank = AreMaps maps iterators
 
 -- ---- one that is in order
 
@@ -196,6 +279,7 @@ pub record IsStructured (e : Structured) : Type 0 where
   pub inputs : inputs_at e.form (first_rank e.ins) (length e.out.dims) ≡ map (λ x. x.dims) e.ins
   pub output : output_at e.form (length e.out.dims) ≡ e.out.dims
   pub widths : FitsWidths e.form e.out.width (map (λ x. x.width) e.ins)
+  pub region : FitsRegion e.form e.captured (map (λ x. x.width) e.ins) e.out.width
   pub numbers : FitsNumbers e.form (first_rank e.ins) (length e.out.dims)
   pub few : length e.extents ≤ max_rank
   pub ins : AllByRecursion (IsFollowing e.extents) e.ins
@@ -215,22 +299,26 @@ module _ (e : Structured) (dim : ℕ → Dim) where
   abbrev pub output_type : ValueType
   output_type = tensor_of (map dim e.out.dims) e.out.width
 
+  -- the names of its region stand behind its own
   abbrev pub op_by : List ℕ → ℕ → Op
   op_by operands name = record {
-    kind = kind_at e.form input_types output_type;
+    kind = kind_at (renumbered_form (length e.ins + 1) (name + 1) e.form) input_types output_type;
     operands = operands;
     defines = Some name;
     result = output_type;
     place = e.place;
   }
 
+-- how many operands: the inputs, the output, and the scalars that its region uses
+abbrev pub operands_in : Structured → ℕ
+operands_in e = length e.ins + 1 + length e.captured
+
 -- on whole tensors
 abbrev pub known : List ℕ → ℕ → Dim
 known extents l = Known (get_or extents l 0)
 
 abbrev pub whole_op : Structured → Op
-whole_op e =
-    op_by e (known e.extents) (range_with_len 0 (length e.ins + 1)) (length e.ins + 1)
+whole_op e = op_by e (known e.extents) (range_with_len 0 (operands_in e)) (operands_in e)
 
 -- ---- its loops
 
@@ -249,12 +337,13 @@ loop_by e l =
       kind = kind;
     }
 
--- the inputs that are tensors, and those that are scalars
+-- the inputs that are tensors
 abbrev pub tensor_ins : Structured → List Operand
 tensor_ins e = if is_fill e.form then [] else e.ins
 
-abbrev pub scalar_ins : Structured → List Operand
-scalar_ins e = if is_fill e.form then e.ins else []
+-- the widths of the scalars, which stand behind the tensors
+abbrev pub scalar_widths : Structured → List Width
+scalar_widths e = if is_fill e.form then map (λ x. x.width) e.ins else e.captured
 
 unfoldable pub structured_nest : Structured → LoopNest
 structured_nest e = record {
@@ -284,7 +373,13 @@ splits_reduction (loop ∷ loops) (x ∷ o) =
 
 -- a scalar of a fill stands first as it is written, and last in its local part
 abbrev pub part_names : Structured → List ℕ
-part_names e = if is_fill e.form then 1 ∷ 0 ∷ [] else range_with_len 0 (length e.ins + 1)
+part_names e = if is_fill e.form then 1 ∷ 0 ∷ [] else range_with_len 0 (operands_in e)
+
+-- the operands where parts are combined: these outs stand in place of the operands' own
+abbrev pub reducing_names : Structured → ℕ → List ℕ
+reducing_names e outs =
+    range_with_len 0 (length e.ins) ++ outs
+    ∷ range_with_len (length e.ins + 1) (length e.captured)
 
 module _ (e : Structured) (dim : ℕ → Dim) where
   abbrev pub own_type : ValueType
@@ -316,13 +411,13 @@ module _ (e : Structured) (dim : ℕ → Dim) where
   -- where a reduction loop is split: the operation on these
   abbrev pub reducing_ops : Kind → List Op
   reducing_ops k =
-      let count = length e.ins in
-      neutral_op k (count + 1) ∷ fill_op count (count + 1)
-      ∷ op_by e dim (range_with_len 0 count ++ suc (count + 1) ∷ []) (suc (suc (count + 1))) ∷ []
+      let count = operands_in e in
+      neutral_op k count ∷ fill_op (length e.ins) count
+      ∷ op_by e dim (reducing_names e (suc count)) (suc (suc count)) ∷ []
 
   abbrev pub part_by : Option Kind → LocalPart
   part_by None =
-      record { ops = op_by e dim (part_names e) (length e.ins + 1) ∷ []; combine = None }
+      record { ops = op_by e dim (part_names e) (operands_in e) ∷ []; combine = None }
   part_by (Some k) = record { ops = reducing_ops k; combine = Some k }
 
 -- by which kind parts have to be combined, if they have
@@ -336,7 +431,7 @@ structured_part e g o = part_by e (local_loop e.extents g o) (combining_kind e o
 abbrev pub structured_meaning : Structured → Meaning
 structured_meaning e = record {
   nest = structured_nest e;
-  scalars = map (λ x. x.width) (scalar_ins e);
+  scalars = scalar_widths e;
   whole = whole_of (whole_op e);
   place = e.place;
   part = structured_part e;

@@ -1,13 +1,14 @@
 //! A structured operation on local tensors.
-ghost use Rattle.std.specs.Prelude.{◌≡◌, ◌≤◌, ◌+◌, ◌++◌, ◌∷◌, [], suc, IfOk, OnOk, length, map, ℕ};
+ghost use Rattle.std.specs.Prelude.{◌≡◌, ◌≤◌, ◌+◌, ◌-◌, ◌++◌, ◌∷◌, [], IfOk, OnOk, length, map, ℕ};
 ghost use Rattle.std.specs.List.{range_with_len};
 ghost use Rattle.sh_ir.specs.declared.types.Dim.{Dim};
 ghost use Rattle.sh_iface.specs.Elements.{tensor_of};
 ghost use Rattle.sh_iface.specs.Valid.{IsValid};
 ghost use Rattle.sh_iface_linalg.specs.Ifaces.{structured_in, value_in};
 ghost use Rattle.sh_iface_linalg.specs.Reading.{meant};
-ghost use Rattle.sh_iface_linalg.specs.Structured.{fill_op, input_types, ins_outs_by, kind_at, local_loop, neutral_op, op_by, own_type, part_by, part_names, reducing_ops, structured_nest, structured_part, tensor_ins};
+ghost use Rattle.sh_iface_linalg.specs.Structured.{fill_op, input_types, ins_outs_by, kind_at, local_loop, neutral_op, op_by, operands_in, own_type, part_by, part_names, reducing_names, reducing_ops, renumbered_form, structured_nest, structured_part, tensor_ins};
 
+use crate::names::{next_name, push_names};
 use crate::{LinalgIface, LinalgKind};
 use sh_base::{Ids, Items, Kind, Mem, Numbers};
 use sh_grid::Grid;
@@ -46,7 +47,8 @@ fn ins_outs(alloc: Global, ins: Types, out: ValueType) -> Result<InsOuts, Mem>
 impl LinalgKind<'_> {
     /// The operation on operands of these types.
     fn on_types(&self, alloc: Global, ins: Types, out: ValueType) -> Result<OpKind, Mem>
-        ensures { IfOk result (λ kind. kind ≡ kind_at (meant self.now) ins out) }
+        ensures { IfOk result (λ kind. (first base : ℕ)
+            → kind ≡ kind_at (renumbered_form first base (meant self.now)) ins out) }
     {
         let ins_outs = ins_outs(alloc, ins, out)?;
         Ok(match self {
@@ -112,7 +114,7 @@ impl LinalgIface<'_> {
             (local_loop (structured_in self.now).extents g.now o.now)) }
     {
         let mut types = self.tensor_types(alloc, g, o)?;
-        if self.kind.is_fill() {
+        if self.is_fill() {
             types.push(ValueType::Scalar(self.first))?;
         }
         Ok(types)
@@ -155,38 +157,47 @@ impl LinalgIface<'_> {
         push_op(ops, constant, names, Some(name), result, self.place)
     }
 
-    /// Appends the outs, filled with the scalar of this name, under the next name.
+    /// Appends the outs, filled with the scalar of a name, under the next name.
     fn push_outs(
         &self,
         alloc: Global,
         ops: &mut Ops,
         g: &Grid,
         o: &LoopOption,
-        outs: u32,
+        scalar: u32,
         name: u32,
     ) -> Result<(), Mem>
         requires valid { IsValid (structured_nest (structured_in self.now)) g.now o.now }
-        requires few { name ≤ 3 }
+        requires next { name ≡ scalar + 1 }
         ensures { OnOk result (ops.new ≡ ops.old ++ fill_op (structured_in self.now)
-            (local_loop (structured_in self.now).extents g.now o.now) outs name ∷ []) }
+            (local_loop (structured_in self.now).extents g.now o.now)
+            (length (structured_in self.now).ins) scalar ∷ []) }
     {
         let mut ins = Items::new(alloc);
         ins.push(ValueType::Scalar(self.width))?;
         let out = self.own_type(alloc, g, o)?;
         let kind = OpKind::Fill(ins_outs(alloc, ins, out)?);
         let mut names = Items::new(alloc);
-        names.push(name)?;
-        names.push(outs)?;
+        names.push(scalar)?;
+        names.push(self.input_count())?;
         let result = self.own_type(alloc, g, o)?;
-        push_op(ops, kind, names, Some(name + 1), result, self.place)
+        push_op(ops, kind, names, Some(name), result, self.place)
+    }
+
+    /// How many operands there are, which are named first; none where they aren't to be numbered.
+    fn operand_total(&self) -> Result<u32, Mem>
+        ensures { IfOk result (λ count. count ≡ operands_in (structured_in self.now)) }
+    {
+        Ok(self.input_count() + 1)
     }
 
     /// The names of the operands where nothing is combined: of a fill the scalar comes last.
-    fn plain_names(&self, alloc: Global) -> Result<Ids, Mem>
+    fn plain_names(&self, alloc: Global, count: u32) -> Result<Ids, Mem>
+        requires { count ≡ operands_in (structured_in self.now) }
         ensures { IfOk result (λ names. names ≡ part_names (structured_in self.now)) }
     {
-        if !self.kind.is_fill() {
-            return operand_names(alloc, self.input_count() + 1);
+        if !self.is_fill() {
+            return operand_names(alloc, count);
         }
         let mut names = Items::new(alloc);
         names.push(1)?;
@@ -194,12 +205,16 @@ impl LinalgIface<'_> {
         Ok(names)
     }
 
-    /// The names of the operands where parts are combined: the outs come last.
+    /// The names of the operands where parts are combined: these outs stand in place of its own.
+    #[tactic(auto, using(crate::proofs::NestLaws::reducing_named))]
     fn reducing_names(&self, alloc: Global, count: u32, outs: u32) -> Result<Ids, Mem>
-        ensures { IfOk result (λ names. names ≡ range_with_len 0 count ++ outs ∷ []) }
+        requires { count ≡ operands_in (structured_in self.now) }
+        ensures { IfOk result (λ names. names ≡ reducing_names (structured_in self.now) outs) }
     {
-        let mut names = operand_names(alloc, count)?;
+        let inputs = self.input_count();
+        let mut names = operand_names(alloc, inputs)?;
         names.push(outs)?;
+        push_names(&mut names, inputs + 1, count)?;
         Ok(names)
     }
 
@@ -216,11 +231,13 @@ impl LinalgIface<'_> {
         ensures { OnOk result (ops.new ≡ ops.old ++ reducing_ops (structured_in self.now)
             (local_loop (structured_in self.now).extents g.now o.now) kind) }
     {
-        let count = self.input_count();
-        let names = self.reducing_names(alloc, count, count + 2)?;
-        self.push_neutral(alloc, ops, kind, count + 1)?;
-        self.push_outs(alloc, ops, g, o, count, count + 1)?;
-        self.push_operation(alloc, ops, g, o, names, count + 3)?;
+        let scalar = self.operand_total()?;
+        let outs = next_name(scalar)?;
+        let name = next_name(outs)?;
+        let names = self.reducing_names(alloc, scalar, outs)?;
+        self.push_neutral(alloc, ops, kind, scalar)?;
+        self.push_outs(alloc, ops, g, o, scalar, outs)?;
+        self.push_operation(alloc, ops, g, o, names, name)?;
         Ok(())
     }
 
@@ -229,10 +246,10 @@ impl LinalgIface<'_> {
         requires { IsValid (structured_nest (structured_in self.now)) g.now o.now }
         ensures { OnOk result (ops.new ≡ ops.old ++ op_by (structured_in self.now)
             (local_loop (structured_in self.now).extents g.now o.now)
-            (part_names (structured_in self.now)) (length (structured_in self.now).ins + 1) ∷ []) }
+            (part_names (structured_in self.now)) (operands_in (structured_in self.now)) ∷ []) }
     {
-        let names = self.plain_names(alloc)?;
-        let name = self.input_count() + 1;
+        let name = self.operand_total()?;
+        let names = self.plain_names(alloc, name)?;
         self.push_operation(alloc, ops, g, o, names, name)?;
         Ok(())
     }

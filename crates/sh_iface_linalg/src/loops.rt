@@ -2,7 +2,7 @@
 ghost use Rattle.std.specs.Prelude.{◌≡◌, ◌<◌, ◌≤◌, ◌&&◌, get_or, is_some, length};
 ghost use Rattle.sh_iface.specs.Splits.{split_at};
 ghost use Rattle.sh_iface_linalg.specs.Ifaces.{structured_in, value_in};
-ghost use Rattle.sh_iface_linalg.specs.Structured.{combining_kind, loop_by, splits_reduction, structured_nest, tensor_ins};
+ghost use Rattle.sh_iface_linalg.specs.Structured.{combining_kind, is_fill, loop_by, splits_reduction, structured_nest, tensor_ins};
 
 use crate::LinalgIface;
 use crate::operation::extent_of;
@@ -18,12 +18,19 @@ impl<'a> LinalgIface<'a> {
         self.kind.input_count(self.dims.len())
     }
 
+    /// Whether its input is a scalar.
+    pub(crate) fn is_fill(&self) -> bool
+        ensures { result ≡ is_fill (structured_in self.now).form }
+    {
+        self.kind.is_fill()
+    }
+
     /// How many of its inputs are tensors.
     pub(crate) fn tensor_inputs(&self) -> u32
         ensures value { result ≡ length (tensor_ins (structured_in self.now)) }
         ensures few { result ≤ 2 }
     {
-        if self.kind.is_fill() {
+        if self.is_fill() {
             0
         } else {
             self.input_count()

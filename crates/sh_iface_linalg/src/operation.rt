@@ -111,7 +111,8 @@ fn read_kind(kind: &OpKind) -> Option<Written<'_>>
     Some(Written { kind, ins_outs })
 }
 
-/// The interface of an operation, if it is a fill, a product or a copy of cells. It takes no memory.
+/// The interface of an operation, if it is a fill, a product or a copy of cells; not yet of a reduction
+/// or a generic. It takes no memory.
 pub fn linalg_of(op: &Op) -> Option<LinalgIface<'_>>
     requires { IsOfVerified op.now }
     ensures { MatchOption result (form_of op.now.kind ≡ None)

@@ -6,4 +6,4 @@ use Rattle.sh_iface_linalg.proofs.operation.LinalgIface.push_alone.Goals as goal
 pub returns : goal.returns
 returns c =
     let e = structured_in c.args.self.now in
-    alone_made e (local_loop e.extents c.args.g.now c.args.o.now) c.input_count-name.result c.in_ok-names.names c.args.ops.now c.push_operation.new.ops c.input_count-name.ensures.value c.in_ok-names.ensures c.in_ok-push_operation.ensures
+    alone_made e (local_loop e.extents c.args.g.now c.args.o.now) c.in_ok-name.name c.in_ok-names.names c.args.ops.now c.push_operation.new.ops c.in_ok-name.ensures c.in_ok-names.ensures c.in_ok-push_operation.ensures
